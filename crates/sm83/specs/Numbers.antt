@@ -1,0 +1,30 @@
+-- The number of each refusal and of each outcome. Every promise uses these.
+use Prim.Native.Nat.{ℕ, _+_}
+use Rattle.sm83.specs.declared.outcome.Refusal.{Refusal}
+use Rattle.sm83.specs.declared.outcome.Refusal.the-variants.{MemoryLength, LowBitsOfF, IllegalOpcode, WindowReversed, WindowTooLong, MarksLength, ForbiddenOpcode, PastTheEnd, FallsThrough, JumpUnmarked}
+use Rattle.sm83.specs.declared.outcome.Outcome.{Outcome}
+use Rattle.sm83.specs.declared.outcome.Outcome.the-variants.{Normal, InfiniteLoop, Halting, RunningHDMA, Stopped, RunningInterrupt, Breakpoint, Refused}
+
+-- the table of "When the core says no"
+abbrev pub numberOf : Refusal → ℕ
+numberOf MemoryLength = 1
+numberOf LowBitsOfF = 2
+numberOf IllegalOpcode = 3
+numberOf WindowReversed = 4
+numberOf WindowTooLong = 5
+numberOf MarksLength = 6
+numberOf ForbiddenOpcode = 7
+numberOf PastTheEnd = 8
+numberOf FallsThrough = 9
+numberOf JumpUnmarked = 10
+
+-- "0 to 4 for Normal, InfiniteLoop, Halting, RunningHDMA, Stopped; 5 Breakpoint; 8 to 12 for interrupts 0 to 4; 16 plus the refusal number" (02, request 5)
+abbrev pub outcomeNumber : Outcome → ℕ
+outcomeNumber Normal = 0
+outcomeNumber InfiniteLoop = 1
+outcomeNumber Halting = 2
+outcomeNumber RunningHDMA = 3
+outcomeNumber Stopped = 4
+outcomeNumber (Breakpoint r) = 5
+outcomeNumber (RunningInterrupt i) = 8 + i
+outcomeNumber (Refused r) = 16 + numberOf r
