@@ -1,0 +1,33 @@
+-- A test that is computed at every number below a bound holds at each of them.
+use mathlib.Core.Path.{_≡_, subst, sym}
+use mathlib.Core.Bool.{Bool, true, false, _&&_}
+use Prim.Native.Nat.{ℕ, zero, suc, _≤_, _<_}
+use native.Mathlib.Nat.{not-suc-le-zero}
+use native.Mathlib.Decide.{ℕ-discrete}
+use native.Mathlib.Omega.{arith}
+use lib.Dec.{T}
+
+pub and-left : (a b : Bool) → T (a && b) → T a
+and-left true b t = tt
+and-left false b t = t
+
+pub and-right : (a b : Bool) → T (a && b) → T b
+and-right true b t = t
+and-right false b t = absurd t
+
+pub and-both : (a b : Bool) → T a → T b → T (a && b)
+and-both true b p q = q
+and-both false b p q = p
+
+-- the test holds at each number below n
+abbrev pub below : (ℕ → Bool) → ℕ → Bool
+below test zero = true
+below test (suc n) = test n && below test n
+
+at-or-below : (test : ℕ → Bool) (n k : ℕ) → Dec (k ≡ n) → T (test n) → (k < n → T (test k)) → k < suc n → T (test k)
+at-or-below test n k (yes e) t lower h = subst (λ (j : ℕ). T (test j)) (sym e) t
+at-or-below test n k (no ne) t lower h = lower (omega arith)
+
+pub at : (test : ℕ → Bool) (n : ℕ) → T (below test n) → (k : ℕ) → k < n → T (test k)
+at test zero t k h = absurd (not-suc-le-zero h)
+at test (suc n) t k h = at-or-below test n k (ℕ-discrete k n) (and-left (test n) (below test n) t) (at test n (and-right (test n) (below test n) t) k) h
