@@ -4,13 +4,11 @@ use mathlib.Core.List.{List, [], _∷_, map}
 use Prim.Native.Nat.{ℕ, zero, suc, _+_}
 use lib.ListN.{set, replicate}
 use Rattle.sm83.specs.declared.state.Cpu.{Cpu}
-use Rattle.sm83.specs.declared.outcome.Verdict.{Verdict}
-use Rattle.sm83.specs.declared.outcome.Verdict.the-variants.{Passes, Refused, RefusedAt}
 use Rattle.sm83.specs.Basics.{bit}
 use Rattle.sm83.specs.Bus.{Ran, plain, byteAt, mcycles}
 use Rattle.sm83.specs.State.{pairHL}
 use Rattle.sm83.specs.Arithmetic.{flagH, flagC}
-use Rattle.sm83.specs.Numbers.{numberOf, outcomeNumber}
+use Rattle.sm83.specs.Numbers.{outcomeNumber, verdictNumber}
 use Rattle.sm83.specs.Step.{Ended, stepOn}
 use Rattle.routine.specs.Screen.{Screened, screen}
 
@@ -62,14 +60,9 @@ pub data Row : Type 0 where
   steps : Cpu → List ℕ → ℕ → List Claim → Row
   passes : List ℕ → List ℕ → Row
 
--- what the screen answers of a window at 0: 0 and the marks if it passes, else the number and the marks
-abbrev pub numberFirst : Verdict → List ℕ → List ℕ
-numberFirst Passes marks = 0 ∷ marks
-numberFirst (Refused r) marks = numberOf r ∷ marks
-numberFirst (RefusedAt r a) marks = numberOf r ∷ marks
-
+-- what the screen answers of a window at 0: the verdict's number, 0 if it passes, and the marks
 abbrev pub screenedAt0 : List ℕ → List ℕ → ℕ → List ℕ
-screenedAt0 window marks last = let r : Screened = screen (written 0 window zeros) 0 last marks in numberFirst (r .verdict) (r .marks)
+screenedAt0 window marks last = let r : Screened = screen (written 0 window zeros) 0 last marks in verdictNumber (r .verdict) ∷ r .marks
 
 unfoldable pub foundOf : Row → List ℕ
 foundOf (steps s m n claims) = let r : Ran (List ℕ) Ended = stepsOf n s m in map (found r) claims
