@@ -1,0 +1,8 @@
+-- What is proved of the definition.
+pub mod Agree
+pub mod Ends
+pub mod FlagColumns
+pub mod FlagLaws
+pub mod Cycles
+pub mod Columns
+pub mod WorkColumns
