@@ -5,7 +5,6 @@ use mathlib.Core.List.{List, [], _∷_}
 use Prim.Native.Nat.{ℕ, suc}
 use lib.ListN.{length}
 use Rattle.sm83.specs.declared.state.Cpu.{Cpu}
-use Rattle.sm83.specs.declared.outcome.Outcome.{Outcome}
 use Rattle.sm83.specs.declared.outcome.Outcome.the-variants.{Normal}
 use Rattle.sm83.specs.Basics.{if_then_else_}
 use Rattle.sm83.specs.Bus.{Kind, Operand, Ask, answer, read, write, idle, peek, writeAndTake, Access, Read, Write, Idle, WriteAndTake, Bus, runOn}
@@ -34,9 +33,9 @@ ends-on b P (writeAndTake a v f) h m =
     ends-on b (λ l e. P (WriteAndTake a v ∷ l) e) (f (b .peeks n)) (h (b .peeks n)) (b .afterTake n)
 
 -- either way that a test goes
-pub ends-if : (P : Bool → List Access → Ended → Type 0) (t : Bool) (p q : Does Ended Outcome) (s : Cpu) → Ends (P true) (p s ended) → Ends (P false) (q s ended) → Ends (P t) ((if t then p else q) s ended)
-ends-if P true p q s yes-way no-way = yes-way
-ends-if P false p q s yes-way no-way = no-way
+pub ends-if : {A : Type 0} (P : Bool → List Access → Ended → Type 0) (t : Bool) (p q : Does Ended A) (s : Cpu) (k : A → Cpu → Ask Ended) → Ends (P true) (p s k) → Ends (P false) (q s k) → Ends (P t) ((if t then p else q) s k)
+ends-if P true p q s k holding failing = holding
+ends-if P false p q s k holding failing = failing
 
 -- A register costs nothing, [HL] one access: before a list, and in its length.
 

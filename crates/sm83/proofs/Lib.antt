@@ -6,3 +6,5 @@ pub mod FlagLaws
 pub mod Cycles
 pub mod Columns
 pub mod WorkColumns
+pub mod JumpColumns
+pub mod ExecuteColumns
