@@ -39,25 +39,25 @@ isRefused (RunningInterrupt i) = false
 isRefused (Breakpoint r) = false
 isRefused (Refused r) = true
 
--- From the state s, after the first fetch: so many M-cycles and operand bytes more, a jump or not, refused or not, and the flags column.
-pub record Columns (more operands : ℕ) (jumping refused : Bool) (column : FlagColumn) (s : Cpu) (l : List Access) (e : Ended) : Type 0 where
+-- From the PC and F that the first fetch leaves: so many M-cycles and operand bytes more, a jump or not, refused or not, and the flags column.
+pub record Columns (more operands : ℕ) (jumping refused : Bool) (column : FlagColumn) (p f : ℕ) (l : List Access) (e : Ended) : Type 0 where
   pub count : length l ≡ more
-  pub reads : Begins operands (pc s) l
-  pub onward : T (not jumping) → T (not refused) → pc (e .cpu) ≡ ahead operands (pc s)
-  pub changes : Obeys column (flags s) (flags (e .cpu))
+  pub reads : Begins operands p l
+  pub onward : T (not jumping) → T (not refused) → pc (e .cpu) ≡ ahead operands p
+  pub changes : Obeys column f (flags (e .cpu))
   pub answers : isRefused (e .outcome) ≡ refused
 
 -- an instruction that goes on to the next
-abbrev pub Onward : ℕ → ℕ → FlagColumn → Cpu → List Access → Ended → Type 0
-Onward more operands column s = Columns more operands false false column s
+abbrev pub Onward : ℕ → ℕ → FlagColumn → ℕ → ℕ → List Access → Ended → Type 0
+Onward more operands column = Columns more operands false false column
 
-pub onwards : {more operands : ℕ} {column : FlagColumn} {s t : Cpu} {l : List Access} → length l ≡ more → Begins operands (pc s) l → pc t ≡ ahead operands (pc s) → Obeys column (flags s) (flags t) → Onward more operands column s l (record { outcome = Normal; cpu = t })
-onwards n r p f = record { count = n; reads = r; onward = λ x y. p; changes = f; answers = refl }
+pub onwards : {more operands : ℕ} {column : FlagColumn} {p f : ℕ} {t : Cpu} {l : List Access} → length l ≡ more → Begins operands p l → pc t ≡ ahead operands p → Obeys column f (flags t) → Onward more operands column p f l (record { outcome = Normal; cpu = t })
+onwards n r to o = record { count = n; reads = r; onward = λ x y. to; changes = o; answers = refl }
 
 -- the same where the flags stay
-pub keeps : {more operands : ℕ} {s t : Cpu} {l : List Access} → length l ≡ more → Begins operands (pc s) l → pc t ≡ ahead operands (pc s) → flags t ≡ flags s → Onward more operands keep s l (record { outcome = Normal; cpu = t })
-keeps n r p f = onwards n r p (same-obeys _ _ f)
+pub keeps : {more operands p f : ℕ} {t : Cpu} {l : List Access} → length l ≡ more → Begins operands p l → pc t ≡ ahead operands p → flags t ≡ f → Onward more operands keep p f l (record { outcome = Normal; cpu = t })
+keeps n r to same = onwards n r to (same-obeys _ _ same)
 
 -- a jump
-pub jumped : {more operands : ℕ} {jumping : Bool} {s : Cpu} {l : List Access} {e : Ended} → length l ≡ more → Begins operands (pc s) l → (T (not jumping) → pc (e .cpu) ≡ ahead operands (pc s)) → flags (e .cpu) ≡ flags s → isRefused (e .outcome) ≡ false → Columns more operands jumping false keep s l e
-jumped n r p f o = record { count = n; reads = r; onward = λ x y. p x; changes = same-obeys _ _ f; answers = o }
+pub jumped : {more operands : ℕ} {jumping : Bool} {p f : ℕ} {l : List Access} {e : Ended} → length l ≡ more → Begins operands p l → (T (not jumping) → pc (e .cpu) ≡ ahead operands p) → flags (e .cpu) ≡ f → isRefused (e .outcome) ≡ false → Columns more operands jumping false keep p f l e
+jumped n r to same o = record { count = n; reads = r; onward = λ x y. to x; changes = same-obeys _ _ same; answers = o }

@@ -58,16 +58,20 @@ prefixedCycles (BIT-u3-r8 n r) = plusHL r 0
 prefixedCycles (RES-u3-r8 n r) = plusHL r (plusHL r 0)
 prefixedCycles (SET-u3-r8 n r) = plusHL r (plusHL r 0)
 
+-- of the whole instruction, where the second byte and what follows it come to `after` once CB was fetched
+abbrev pub cyclesWith : Bool → Instruction → ℕ → ℕ
+cyclesWith t (does w) after = workCycles w
+cyclesWith t (goes j) after = jumpCycles t j
+cyclesWith t CB-prefix after = after
+cyclesWith t HALT after = 0
+cyclesWith t STOP after = 0
+cyclesWith t EI after = 0
+cyclesWith t LD-B-B after = 0
+cyclesWith t ILLEGAL after = 0
+
 -- with the byte after the first, which counts after CB
 abbrev pub cyclesOf : Bool → Instruction → ℕ → ℕ
-cyclesOf t (does w) x = workCycles w
-cyclesOf t (goes j) x = jumpCycles t j
-cyclesOf t CB-prefix x = suc (prefixedCycles (decodeCB x))
-cyclesOf t HALT x = 0
-cyclesOf t STOP x = 0
-cyclesOf t EI x = 0
-cyclesOf t LD-B-B x = 0
-cyclesOf t ILLEGAL x = 0
+cyclesOf t i x = cyclesWith t i (suc (prefixedCycles (decodeCB x)))
 
 -- whether it jumps at the flags f: its condition holds, or it has none
 

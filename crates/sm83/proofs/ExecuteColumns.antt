@@ -31,22 +31,22 @@ isIllegal LD-B-B = false
 isIllegal ILLEGAL = true
 
 -- the fetch after CB before the rest
-after-CB : (x : ℕ) {s : Cpu} {l : List Access} {e : Ended} → Onward (prefixedCycles (decodeCB x)) 0 (prefixedFlags (decodeCB x)) (setPC (next (pc s)) s) l e → Onward (cyclesOf false CB-prefix x) 1 (flagsOf CB-prefix x) s (Read Fetch (pc s) ∷ l) e
+after-CB : (x : ℕ) {p f : ℕ} {l : List Access} {e : Ended} → Onward (prefixedCycles (decodeCB x)) 0 (prefixedFlags (decodeCB x)) (next p) f l e → Onward (cyclesOf false CB-prefix x) 1 (flagsOf CB-prefix x) p f (Read Fetch p ∷ l) e
 after-CB x c = record { count = ap suc (c .count); reads = (refl, tt); onward = c .onward; changes = c .changes; answers = c .answers }
 
-halt-columns : (at : ℕ) (s : Cpu) → Ends (Onward 0 0 keep s) (execute at HALT s ended)
+halt-columns : (at : ℕ) (s : Cpu) → Ends (Onward 0 0 keep (pc s) (flags s)) (execute at HALT s ended)
 unfolding executing
-halt-columns at s = ends-if (λ t. Onward 0 0 keep s) (s .ime) _ _ s (λ u t. ended Normal t) (keeps refl tt refl refl) (λ i. keeps refl tt refl refl)
+halt-columns at s = ends-if (λ t. Onward 0 0 keep (pc s) (flags s)) (s .ime) _ _ s (λ u t. ended Normal t) (keeps refl tt refl refl) (λ i. keeps refl tt refl refl)
 
 module _ {W : Type 0} (b : Bus W) where
-  on-memory : {more k : ℕ} {jumping refused : Bool} {column : FlagColumn} {s : Cpu} (p : Ask Ended) → Ends (Columns more k jumping refused column s) p → (m : W) → Columns more k jumping refused column s (runOn b p m .accesses) (runOn b p m .value)
-  on-memory {more} {k} {jumping} {refused} {column} {s} p h m = ends-on b (Columns more k jumping refused column s) p h m
+  on-memory : {more k : ℕ} {jumping refused : Bool} {column : FlagColumn} {a f : ℕ} (p : Ask Ended) → Ends (Columns more k jumping refused column a f) p → (m : W) → Columns more k jumping refused column a f (runOn b p m .accesses) (runOn b p m .value)
+  on-memory {more} {k} {jumping} {refused} {column} {a} {f} p h m = ends-on b (Columns more k jumping refused column a f) p h m
 
   -- what an instruction at `at` comes to, from the state after its fetch
   abbrev pub executed : ℕ → Instruction → Cpu → W → Ran W Ended
   executed at i s m = runOn b (execute at i s ended) m
 
-  pub execute-columns : (at : ℕ) (i : Instruction) (s : Cpu) (m : W) → Columns (cyclesOf (jumps i (flags s)) i (b .sees m (pc s))) (operands i) (jumps i (flags s)) (isIllegal i) (flagsOf i (b .sees m (pc s))) s (executed at i s m .accesses) (executed at i s m .value)
+  pub execute-columns : (at : ℕ) (i : Instruction) (s : Cpu) (m : W) → Columns (cyclesOf (jumps i (flags s)) i (b .sees m (pc s))) (operands i) (jumps i (flags s)) (isIllegal i) (flagsOf i (b .sees m (pc s))) (pc s) (flags s) (executed at i s m .accesses) (executed at i s m .value)
   unfolding executing runOn
   execute-columns at (does w) s m = on-memory (work w s (λ u t. ended Normal t)) (work-columns w s) m
   execute-columns at (goes j) s m = on-memory (jump at j s ended) (jump-columns at j s) m

@@ -76,13 +76,17 @@ prefixedFlags (BIT-u3-r8 n r) = Z01-
 prefixedFlags (RES-u3-r8 n r) = keep
 prefixedFlags (SET-u3-r8 n r) = keep
 
+-- of the whole instruction, where the second byte has the column `after` once CB was fetched
+abbrev pub flagsWith : Instruction → FlagColumn → FlagColumn
+flagsWith (does w) after = workFlags w
+flagsWith (goes j) after = keep
+flagsWith CB-prefix after = after
+flagsWith HALT after = keep
+flagsWith STOP after = keep
+flagsWith EI after = keep
+flagsWith LD-B-B after = keep
+flagsWith ILLEGAL after = keep
+
 -- with the byte after the first, which counts after CB
 abbrev pub flagsOf : Instruction → ℕ → FlagColumn
-flagsOf (does w) x = workFlags w
-flagsOf (goes j) x = keep
-flagsOf CB-prefix x = prefixedFlags (decodeCB x)
-flagsOf HALT x = keep
-flagsOf STOP x = keep
-flagsOf EI x = keep
-flagsOf LD-B-B x = keep
-flagsOf ILLEGAL x = keep
+flagsOf i x = flagsWith i (prefixedFlags (decodeCB x))

@@ -20,13 +20,13 @@ use Rattle.sm83.proofs.Columns.{Columns, isRefused, jumped}
 
 -- a jump, taken or not, with some of its accesses before the rest
 abbrev pub Jumping : Cpu → Jump → Bool → (List Access → List Access) → List Access → Ended → Type 0
-Jumping s j t before l e = Columns (jumpCycles t j) (jumpOperands j) t false keep s (before l) e
+Jumping s j t before l e = Columns (jumpCycles t j) (jumpOperands j) t false keep (pc s) (flags s) (before l) e
 
 no-refusal : (t : Bool) → isRefused (if t then InfiniteLoop else Normal) ≡ false
 no-refusal true = refl
 no-refusal false = refl
 
-pub jump-columns : (at : ℕ) (j : Jump) (s : Cpu) → Ends (Columns (jumpCycles (takes j (flags s)) j) (jumpOperands j) (takes j (flags s)) false keep s) (jump at j s ended)
+pub jump-columns : (at : ℕ) (j : Jump) (s : Cpu) → Ends (Columns (jumpCycles (takes j (flags s)) j) (jumpOperands j) (takes j (flags s)) false keep (pc s) (flags s)) (jump at j s ended)
 unfolding executing
 jump-columns at JP-n16 s = λ x y. jumped refl (refl, (refl, tt)) (λ z. absurd z) refl (no-refusal (eqb (word y x) at))
 jump-columns at JP-HL s = jumped refl tt (λ z. absurd z) refl (no-refusal (eqb (pairHL (s .registers)) at))

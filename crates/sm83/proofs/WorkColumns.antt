@@ -7,7 +7,7 @@ use Rattle.sm83.specs.declared.registers.CpuRegisters.{CpuRegisters}
 use Rattle.sm83.specs.declared.state.Cpu.{Cpu}
 use Rattle.sm83.specs.declared.outcome.Outcome.the-variants.{Normal}
 use Rattle.sm83.specs.Bus.{Access}
-use Rattle.sm83.specs.State.{pairHL}
+use Rattle.sm83.specs.State.{pairHL, pc, flags}
 use Rattle.sm83.specs.Instruction.{Reg8, Reg16, rBC, rDE, rHL, rSP, Stacked, pBC, pDE, pHL, pAF, Pointer, [BC], [DE], [HL+], [HL-]}
 use Rattle.sm83.specs.Instruction.{Work, NOP, DI, LD-r8-r8, LD-r8-n8, LD-r16-n16, LD-[r16]-A, LD-A-[r16], LD-[n16]-A, LD-A-[n16], LDH-[n8]-A, LDH-A-[n8], LDH-[C]-A, LDH-A-[C], LD-[n16]-SP, LD-SP-HL, LD-HL-SP+e8, ADD-SP-e8, ALU-A-r8, ALU-A-n8, ACC, INC-r8, DEC-r8, INC-r16, DEC-r16, ADD-HL-r16, PUSH-r16, POP-r16, workOperands}
 use Rattle.sm83.specs.Instruction.{Prefixed, SHIFT-r8, BIT-u3-r8, RES-u3-r8, SET-u3-r8}
@@ -49,7 +49,7 @@ pop-columns pAF w r = (refl, popped-obeys _ _)
 length-twice : (from to : Reg8) (x y : Access) → length (atHL from x (atHL to y [])) ≡ plusHL from (plusHL to 0)
 length-twice from to x y = length-atHL from x (atHL to y []) ∙ ap (plusHL from) (length-atHL to y [])
 
-pub work-columns : (w : Work) (s : Cpu) → Ends (Onward (workCycles w) (workOperands w) (workFlags w) s) (work w s (λ u t. ended Normal t))
+pub work-columns : (w : Work) (s : Cpu) → Ends (Onward (workCycles w) (workOperands w) (workFlags w) (pc s) (flags s)) (work w s (λ u t. ended Normal t))
 unfolding executing
 work-columns NOP s = keeps refl tt refl refl
 work-columns DI s = keeps refl tt refl refl
@@ -79,7 +79,7 @@ work-columns (ADD-HL-r16 from) s = onwards refl tt refl (word-sum-obeys (pairHL 
 work-columns (PUSH-r16 from) s = keeps refl tt refl refl
 work-columns (POP-r16 to) s = λ x y. onwards refl tt (pop-columns to _ _ .0) (pop-columns to _ _ .1)
 
-pub prefixed-columns : (i : Prefixed) (s : Cpu) → Ends (Onward (prefixedCycles i) 0 (prefixedFlags i) s) (prefixed i s (λ u t. ended Normal t))
+pub prefixed-columns : (i : Prefixed) (s : Cpu) → Ends (Onward (prefixedCycles i) 0 (prefixedFlags i) (pc s) (flags s)) (prefixed i s (λ u t. ended Normal t))
 unfolding executing
 prefixed-columns (SHIFT-r8 op to) s = ends-get _ to s _ (λ x. ends-put _ to _ _ (λ t p f. onwards (length-twice to to _ _) tt p (become f (shift-obeys op x _))))
 prefixed-columns (BIT-u3-r8 n from) s = ends-get _ from s _ (λ x. onwards (length-atHL from _ []) tt refl (bit-obeys n x _))
