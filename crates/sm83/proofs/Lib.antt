@@ -8,3 +8,4 @@ pub mod Columns
 pub mod WorkColumns
 pub mod JumpColumns
 pub mod ExecuteColumns
+pub mod Agreement
