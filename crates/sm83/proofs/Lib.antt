@@ -9,3 +9,4 @@ pub mod WorkColumns
 pub mod JumpColumns
 pub mod ExecuteColumns
 pub mod Agreement
+pub mod StepRuns
