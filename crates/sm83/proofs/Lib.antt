@@ -10,3 +10,4 @@ pub mod JumpColumns
 pub mod ExecuteColumns
 pub mod Agreement
 pub mod StepRuns
+pub mod StepCycles

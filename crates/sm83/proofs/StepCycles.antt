@@ -1,0 +1,161 @@
+-- What each kind of step costs, and "A step costs 1 to 8 M-cycles": for every state, on every kind of memory.
+use mathlib.Core.Path.{_≡_, refl, ap, sym, subst, _∙_}
+use mathlib.Core.Bool.{Bool, true, false, not, _&&_}
+use mathlib.Core.List.{List, [], _∷_}
+use Prim.Native.Nat.{ℕ, suc, _+_, _/_, _%_, _≤_, _<_}
+use native.Mathlib.Omega.{arith}
+use lib.Dec.{leb, ltb, leb→le, ltb→lt, nltb→le, T}
+use lib.ListN.{getD, List·getD-eq-default}
+use Rattle.sm83.specs.declared.state.Cpu.{Cpu}
+use Rattle.sm83.specs.declared.state.HaltMode.the-variants.{NotHalting}
+use Rattle.sm83.specs.declared.outcome.Outcome.{Outcome}
+use Rattle.sm83.specs.Basics.{if_then_else_}
+use Rattle.sm83.specs.Bus.{Ask, isInterrupt, Bus, Ran, runOn, mcycles}
+use Rattle.sm83.specs.State.{flags, setHalt}
+use Rattle.sm83.specs.Instruction.{Reg8, rB, rC, rD, rE, rH, rL, [HL], rA, Instruction, does, ALU-A-r8, alu, reg8, quarter0, loads, quarter3, ILLEGAL, Prefixed, SHIFT-r8, BIT-u3-r8, RES-u3-r8, SET-u3-r8, decode, decodeCB}
+use Rattle.sm83.specs.Execution.{Does, _>>_, wait}
+use Rattle.sm83.specs.Step.{isAsleep, awake, step, Ended, ended, stepTree}
+use Rattle.sm83.specs.Published.{isCB}
+use Rattle.sm83.proofs.Agree.{agree}
+use Rattle.sm83.proofs.Ends.{plusHL}
+use Rattle.sm83.proofs.Cycles.{cyclesWith, cyclesOf, prefixedCycles, jumps}
+use Rattle.sm83.proofs.StepRuns.{Runs, if-not, if-so, stepped, opcode, second, rest, step-runs, step-columns}
+
+by-cases : {A : Type 0} (t : Bool) → (t ≡ true → A) → (t ≡ false → A) → A
+by-cases true so not-so = so refl
+by-cases false so not-so = not-so refl
+
+and-not : (t u : Bool) → u ≡ false → (t && u) ≡ false
+and-not true u e = e
+and-not false u e = refl
+
+-- No instruction takes more than 6, whatever bytes memory shows.
+
+either-HL : (Q : (ℕ → ℕ) → Type 0) → Q (λ n. n) → Q suc → (r : Reg8) → Q (plusHL r)
+either-HL Q p q rB = p
+either-HL Q p q rC = p
+either-HL Q p q rD = p
+either-HL Q p q rE = p
+either-HL Q p q rH = p
+either-HL Q p q rL = p
+either-HL Q p q [HL] = q
+either-HL Q p q rA = p
+
+prefixed-small : (i : Prefixed) → leb (suc (prefixedCycles i)) 5 ≡ true
+prefixed-small (SHIFT-r8 op r) = either-HL (λ g. leb (suc (g (g 0))) 5 ≡ true) refl refl r
+prefixed-small (BIT-u3-r8 n r) = either-HL (λ g. leb (suc (g 0)) 5 ≡ true) refl refl r
+prefixed-small (RES-u3-r8 n r) = either-HL (λ g. leb (suc (g (g 0))) 5 ≡ true) refl refl r
+prefixed-small (SET-u3-r8 n r) = either-HL (λ g. leb (suc (g (g 0))) 5 ≡ true) refl refl r
+
+byte-small : (t : Bool) (n x : ℕ) → x < 256 → leb (cyclesWith t (decode x) n) 5 ≡ (if isCB x then leb n 5 else true)
+unfolding decode
+byte-small true n = agree _ _ 256 refl
+byte-small false n = agree _ _ 256 refl
+
+if-same : (t : Bool) → (if t then true else true) ≡ true
+if-same true = refl
+if-same false = refl
+
+no-byte : (x : ℕ) → 256 ≤ x → decode x ≡ ILLEGAL
+unfolding decode
+no-byte x h =
+    let y : ℕ = x / 8 % 8 in
+    let z : ℕ = x % 8 in
+    let k : 4 ≤ x / 64 = omega arith in
+    List·getD-eq-default (quarter0 y z ∷ loads y z ∷ does (ALU-A-r8 (alu y) (reg8 z)) ∷ quarter3 y z ∷ []) ILLEGAL k
+
+small : (t : Bool) (x y : ℕ) → leb (cyclesOf t (decode x) y) 5 ≡ true
+small t x y =
+    by-cases (ltb x 256)
+    (λ e. byte-small t _ x (ltb→lt x 256 (subst T (sym e) tt)) ∙ ap (λ (u : Bool). if isCB x then u else true) (prefixed-small (decodeCB y)) ∙ if-same (isCB x))
+    (λ e. ap (λ (i : Instruction). leb (cyclesOf t i y) 5) (no-byte x (nltb→le x 256 (subst (λ (u : Bool). T (not u)) (sym e) tt))))
+
+module _ {W : Type 0} (b : Bus W) where
+  -- the M-cycles of a step
+  abbrev pub cost : Cpu → W → ℕ
+  cost s m = mcycles (stepped b s m .accesses)
+
+  -- 1. "Stopped: one idle access"
+  pub stopped-costs-1 : (s : Cpu) (m : W) → s .stopped ≡ true → cost s m ≡ 1
+  unfolding step runOn
+  stopped-costs-1 s m e = ap (λ (d : Does Ended Outcome). mcycles (runOn b (d s ended) m .accesses)) (if-so _ _ e)
+
+  -- 2. "HDMA running: one idle access"
+  pub hdma-costs-1 : (s : Cpu) (m : W) → s .stopped ≡ false → s .hdma ≡ true → cost s m ≡ 1
+  unfolding step runOn
+  hdma-costs-1 s m e h = ap (λ (d : Does Ended Outcome). mcycles (runOn b (d s ended) m .accesses)) (if-not _ _ e ∙ if-so _ _ h)
+
+  -- 3. "Halted .. one idle access. Nothing pending: outcome Halting"
+  pub halted-costs-1 : (s : Cpu) (m : W) → s .stopped ≡ false → s .hdma ≡ false → isAsleep (s .halt) ≡ true → isInterrupt (b .peeks (b .afterIdle m)) ≡ false → cost s m ≡ 1
+  unfolding step runOn
+  halted-costs-1 s m e h a i =
+      ap (λ (d : Does Ended Outcome). mcycles (runOn b (d s ended) m .accesses)) (if-not _ _ e ∙ if-not _ _ h ∙ if-so _ _ a)
+      ∙ ap (λ (d : Does Ended Outcome). suc (mcycles (runOn b (d s ended) (b .afterPeek (b .afterIdle m)) .accesses))) (if-not _ _ i)
+
+  -- 4. an interrupt is dispatched: two writes and "three idle accesses"
+  pub dispatch-costs-5 : (s : Cpu) (m : W) → s .stopped ≡ false → s .hdma ≡ false → isAsleep (s .halt) ≡ false → s .ime ≡ true → isInterrupt (b .peeks m) ≡ true → cost s m ≡ 5
+  unfolding step awake runOn
+  dispatch-costs-5 s m e h a t i =
+      ap (λ (d : Does Ended Outcome). mcycles (runOn b (d s ended) m .accesses)) (if-not _ _ e ∙ if-not _ _ h ∙ if-not _ _ a)
+      ∙ ap (λ (d : Does Ended Outcome). mcycles (runOn b (d s ended) m .accesses)) (if-so _ _ t)
+      ∙ ap (λ (d : Does Ended Outcome). mcycles (runOn b (d s ended) (b .afterPeek m) .accesses)) (if-so _ _ i)
+
+  -- the memory at which a halt has ended
+  abbrev wokenMemory : Cpu → W → W
+  wokenMemory s m = let n : W = b .afterPeek (b .afterIdle m) in if s .dmg then n else b .afterIdle n
+
+  woken-costs : (t : Bool) (s : Cpu) (n : W) → suc (mcycles (runOn b ((if t then awake else (wait >> awake)) s ended) n .accesses)) ≡ (if t then 1 else 2) + mcycles (runOn b (awake s ended) (if t then n else b .afterIdle n) .accesses)
+  unfolding runOn
+  woken-costs true s n = omega arith
+  woken-costs false s n = omega arith
+
+  -- 3. "Pending: the halt ends in this very step, one more idle access if not DMG, and the step goes on": as that of the state that halts no more
+  pub waking-adds : (s : Cpu) (m : W) → s .stopped ≡ false → s .hdma ≡ false → isAsleep (s .halt) ≡ true → isInterrupt (b .peeks (b .afterIdle m)) ≡ true → cost s m ≡ (if s .dmg then 1 else 2) + cost (setHalt NotHalting s) (wokenMemory s m)
+  unfolding step runOn
+  waking-adds s m e h a i =
+      ap (λ (d : Does Ended Outcome). mcycles (runOn b (d s ended) m .accesses)) (if-not _ _ e ∙ if-not _ _ h ∙ if-so _ _ a)
+      ∙ ap (λ (d : Does Ended Outcome). suc (mcycles (runOn b (d s ended) (b .afterPeek (b .afterIdle m)) .accesses))) (if-so _ _ i)
+      ∙ woken-costs (s .dmg) (setHalt NotHalting s) (b .afterPeek (b .afterIdle m))
+      ∙ sym (ap (λ (d : Does Ended Outcome). (if s .dmg then 1 else 2) + mcycles (runOn b (d (setHalt NotHalting s) ended) (wokenMemory s m) .accesses)) (if-not _ _ e ∙ if-not _ _ h))
+
+  -- 5 to 7. the instruction's own
+  pub instruction-costs : (s : Cpu) (m : W) → Runs b s m → cost s m ≡ suc (cyclesOf (jumps (decode (opcode b s m)) (flags s)) (decode (opcode b s m)) (second b s m))
+  instruction-costs s m r = ap (λ (x : Ran W Ended). mcycles (x .accesses)) (step-runs b s m r) ∙ ap suc (step-columns b s m .count)
+
+  -- between two bounds
+  abbrev Within : ℕ → ℕ → ℕ → Type 0
+  Within x y n = (x ≤ n) × (n ≤ y)
+
+  instruction-within : (s : Cpu) (m : W) → Runs b s m → Within 1 6 (cost s m)
+  instruction-within s m r =
+      let i : Instruction = decode (opcode b s m) in
+      let n : ℕ = cyclesOf (jumps i (flags s)) i (second b s m) in
+      let h : n ≤ 5 = leb→le n 5 (subst T (sym (small (jumps i (flags s)) (opcode b s m) (second b s m))) tt) in
+      subst (Within 1 6) (sym (instruction-costs s m r)) (omega arith, omega arith)
+
+  awake-within : (s : Cpu) (m : W) → s .stopped ≡ false → s .hdma ≡ false → isAsleep (s .halt) ≡ false → Within 1 6 (cost s m)
+  awake-within s m e h a =
+      let instruct : (s .ime && isInterrupt (b .peeks m)) ≡ false → Within 1 6 (cost s m) = λ u. instruction-within s m (record { running = e; no-hdma = h; not-asleep = a; uninterrupted = u }) in
+      by-cases (s .ime)
+      (λ t. by-cases (isInterrupt (b .peeks m))
+      (λ i. subst (Within 1 6) (sym (dispatch-costs-5 s m e h a t i)) (omega arith, omega arith))
+      (λ i. instruct (and-not (s .ime) (isInterrupt (b .peeks m)) i)))
+      (λ t. instruct (ap (λ (x : Bool). x && isInterrupt (b .peeks m)) t))
+
+  woken-within : (t : Bool) (n : ℕ) → Within 1 6 n → Within 1 8 ((if t then 1 else 2) + n)
+  woken-within true n h = (omega (arith, h), omega (arith, h))
+  woken-within false n h = (omega (arith, h), omega (arith, h))
+
+  just-1 : (n : ℕ) → n ≡ 1 → Within 1 8 n
+  just-1 n e = subst (Within 1 8) (sym e) (omega arith, omega arith)
+
+  -- "A step costs 1 to 8 M-cycles."
+  pub one-to-eight : (s : Cpu) (m : W) → (1 ≤ cost s m) × (cost s m ≤ 8)
+  one-to-eight s m =
+      by-cases (s .stopped) (λ e. just-1 _ (stopped-costs-1 s m e))
+      (λ e. by-cases (s .hdma) (λ h. just-1 _ (hdma-costs-1 s m e h))
+      (λ h. by-cases (isAsleep (s .halt))
+      (λ a. by-cases (isInterrupt (b .peeks (b .afterIdle m)))
+      (λ i. subst (Within 1 8) (sym (waking-adds s m e h a i)) (woken-within (s .dmg) _ (awake-within (setHalt NotHalting s) (wokenMemory s m) e h refl)))
+      (λ i. just-1 _ (halted-costs-1 s m e h a i)))
+      (λ a. let k : Within 1 6 (cost s m) = awake-within s m e h a in (omega (arith, k), omega (arith, k)))))
