@@ -10,4 +10,5 @@ pub mod JumpColumns
 pub mod ExecuteColumns
 pub mod Agreement
 pub mod StepRuns
+pub mod SmallCycles
 pub mod StepCycles

@@ -1,74 +1,25 @@
 -- What each kind of step costs, and "A step costs 1 to 8 M-cycles": for every state, on every kind of memory.
 use mathlib.Core.Path.{_≡_, refl, ap, sym, subst, _∙_}
-use mathlib.Core.Bool.{Bool, true, false, not, _&&_}
-use mathlib.Core.List.{List, [], _∷_}
-use Prim.Native.Nat.{ℕ, suc, _+_, _/_, _%_, _≤_, _<_}
+use mathlib.Core.Bool.{Bool, true, false, _&&_}
+use Prim.Native.Nat.{ℕ, suc, _+_, _≤_}
 use native.Mathlib.Omega.{arith}
-use lib.Dec.{leb, ltb, leb→le, ltb→lt, nltb→le, T}
-use lib.ListN.{getD, List·getD-eq-default}
+use lib.Dec.{leb→le, T}
 use Rattle.sm83.specs.declared.state.Cpu.{Cpu}
 use Rattle.sm83.specs.declared.state.HaltMode.the-variants.{NotHalting}
 use Rattle.sm83.specs.declared.outcome.Outcome.{Outcome}
 use Rattle.sm83.specs.Basics.{if_then_else_}
-use Rattle.sm83.specs.Bus.{Ask, isInterrupt, Bus, Ran, runOn, mcycles}
+use Rattle.sm83.specs.Bus.{isInterrupt, Bus, Ran, runOn, mcycles}
 use Rattle.sm83.specs.State.{flags, setHalt}
-use Rattle.sm83.specs.Instruction.{Reg8, rB, rC, rD, rE, rH, rL, [HL], rA, Instruction, does, ALU-A-r8, alu, reg8, quarter0, loads, quarter3, ILLEGAL, Prefixed, SHIFT-r8, BIT-u3-r8, RES-u3-r8, SET-u3-r8, decode, decodeCB}
+use Rattle.sm83.specs.Instruction.{Instruction, decode}
 use Rattle.sm83.specs.Execution.{Does, _>>_, wait}
-use Rattle.sm83.specs.Step.{isAsleep, awake, step, Ended, ended, stepTree}
-use Rattle.sm83.specs.Published.{isCB}
-use Rattle.sm83.proofs.Agree.{agree}
-use Rattle.sm83.proofs.Ends.{plusHL}
-use Rattle.sm83.proofs.Cycles.{cyclesWith, cyclesOf, prefixedCycles, jumps}
-use Rattle.sm83.proofs.StepRuns.{Runs, if-not, if-so, stepped, opcode, second, rest, step-runs, step-columns}
-
-by-cases : {A : Type 0} (t : Bool) → (t ≡ true → A) → (t ≡ false → A) → A
-by-cases true so not-so = so refl
-by-cases false so not-so = not-so refl
+use Rattle.sm83.specs.Step.{isAsleep, awake, step, Ended, ended, admission, accepted, stepOn}
+use Rattle.sm83.proofs.Cycles.{cyclesOf, jumps}
+use Rattle.sm83.proofs.SmallCycles.{by-cases, small}
+use Rattle.sm83.proofs.StepRuns.{Runs, if-not, if-so, stepped, accepted-step, opcode, second, step-runs, step-columns}
 
 and-not : (t u : Bool) → u ≡ false → (t && u) ≡ false
 and-not true u e = e
 and-not false u e = refl
-
--- No instruction takes more than 6, whatever bytes memory shows.
-
-either-HL : (Q : (ℕ → ℕ) → Type 0) → Q (λ n. n) → Q suc → (r : Reg8) → Q (plusHL r)
-either-HL Q p q rB = p
-either-HL Q p q rC = p
-either-HL Q p q rD = p
-either-HL Q p q rE = p
-either-HL Q p q rH = p
-either-HL Q p q rL = p
-either-HL Q p q [HL] = q
-either-HL Q p q rA = p
-
-prefixed-small : (i : Prefixed) → leb (suc (prefixedCycles i)) 5 ≡ true
-prefixed-small (SHIFT-r8 op r) = either-HL (λ g. leb (suc (g (g 0))) 5 ≡ true) refl refl r
-prefixed-small (BIT-u3-r8 n r) = either-HL (λ g. leb (suc (g 0)) 5 ≡ true) refl refl r
-prefixed-small (RES-u3-r8 n r) = either-HL (λ g. leb (suc (g (g 0))) 5 ≡ true) refl refl r
-prefixed-small (SET-u3-r8 n r) = either-HL (λ g. leb (suc (g (g 0))) 5 ≡ true) refl refl r
-
-byte-small : (t : Bool) (n x : ℕ) → x < 256 → leb (cyclesWith t (decode x) n) 5 ≡ (if isCB x then leb n 5 else true)
-unfolding decode
-byte-small true n = agree _ _ 256 refl
-byte-small false n = agree _ _ 256 refl
-
-if-same : (t : Bool) → (if t then true else true) ≡ true
-if-same true = refl
-if-same false = refl
-
-no-byte : (x : ℕ) → 256 ≤ x → decode x ≡ ILLEGAL
-unfolding decode
-no-byte x h =
-    let y : ℕ = x / 8 % 8 in
-    let z : ℕ = x % 8 in
-    let k : 4 ≤ x / 64 = omega arith in
-    List·getD-eq-default (quarter0 y z ∷ loads y z ∷ does (ALU-A-r8 (alu y) (reg8 z)) ∷ quarter3 y z ∷ []) ILLEGAL k
-
-small : (t : Bool) (x y : ℕ) → leb (cyclesOf t (decode x) y) 5 ≡ true
-small t x y =
-    by-cases (ltb x 256)
-    (λ e. byte-small t _ x (ltb→lt x 256 (subst T (sym e) tt)) ∙ ap (λ (u : Bool). if isCB x then u else true) (prefixed-small (decodeCB y)) ∙ if-same (isCB x))
-    (λ e. ap (λ (i : Instruction). leb (cyclesOf t i y) 5) (no-byte x (nltb→le x 256 (subst (λ (u : Bool). T (not u)) (sym e) tt))))
 
 module _ {W : Type 0} (b : Bus W) where
   -- the M-cycles of a step
@@ -159,3 +110,6 @@ module _ {W : Type 0} (b : Bus W) where
       (λ i. subst (Within 1 8) (sym (waking-adds s m e h a i)) (woken-within (s .dmg) _ (awake-within (setHalt NotHalting s) (wokenMemory s m) e h refl)))
       (λ i. just-1 _ (halted-costs-1 s m e h a i)))
       (λ a. let k : Within 1 6 (cost s m) = awake-within s m e h a in (omega (arith, k), omega (arith, k)))))
+
+  pub accepted-one-to-eight : (s : Cpu) (m : W) → admission b s m ≡ accepted → (1 ≤ mcycles (stepOn b s m .accesses)) × (mcycles (stepOn b s m .accesses) ≤ 8)
+  accepted-one-to-eight s m e = subst (λ (r : Ran W Ended). Within 1 8 (mcycles (r .accesses))) (sym (accepted-step b s m e)) (one-to-eight s m)

@@ -7,7 +7,7 @@ use Rattle.sm83.specs.declared.state.HaltMode.the-variants.{NotHalting}
 use Rattle.sm83.specs.declared.outcome.Outcome.{Outcome}
 use Rattle.sm83.specs.Basics.{if_then_else_, next}
 use Rattle.sm83.specs.Bus.{Fetch, Read, Ask, isInterrupt, Bus, Ran, runOn, logged}
-use Rattle.sm83.specs.State.{pc, flags, setPC, setIme, setLatch, setHalt}
+use Rattle.sm83.specs.State.{pc, sp, flags, setPC, setIme, setLatch, setHalt}
 use Rattle.sm83.specs.Instruction.{Instruction, decode, operands}
 use Rattle.sm83.specs.Execution.{Does, execute, asked, _>>=_}
 use Rattle.sm83.specs.Step.{isAsleep, isBug, dispatch, enabled, fetched, instruction, awake, step, Ended, ended, stepTree, Admission, admission, accepted, admitted, stepOn}
@@ -39,16 +39,17 @@ enabled-as : {A : Type 0} (g : Cpu → A) (t : Bool) (s : Cpu) → g (setIme tru
 enabled-as g true s e = e
 enabled-as g false s e = refl
 
-fetched-is : (t : Bool) (s q : Cpu) → pc q ≡ pc s → flags q ≡ flags s → (pc (if t then q else setPC (next (pc s)) s) ≡ (if t then pc s else next (pc s))) × (flags (if t then q else setPC (next (pc s)) s) ≡ flags s)
-fetched-is true s q p f = (p, f)
-fetched-is false s q p f = (refl, refl)
+fetched-is : (t : Bool) (s q : Cpu) → pc q ≡ pc s → flags q ≡ flags s → sp q ≡ sp s → (pc (if t then q else setPC (next (pc s)) s) ≡ (if t then pc s else next (pc s))) × (flags (if t then q else setPC (next (pc s)) s) ≡ flags s) × (sp (if t then q else setPC (next (pc s)) s) ≡ sp s)
+fetched-is true s q p f r = (p, f, r)
+fetched-is false s q p f r = (refl, refl, refl)
 
-pub starts : (s : Cpu) → (pc (fetched (enabled s)) ≡ afterFetch s) × (flags (fetched (enabled s)) ≡ flags s)
+-- the state in which the instruction is executed
+pub starts : (s : Cpu) → (pc (fetched (enabled s)) ≡ afterFetch s) × (flags (fetched (enabled s)) ≡ flags s) × (sp (fetched (enabled s)) ≡ sp s)
 unfolding fetched
 starts s =
     let u : Cpu = enabled s in
-    let h : (pc (fetched u) ≡ afterFetch u) × (flags (fetched u) ≡ flags u) = fetched-is (isBug (u .halt)) u (setHalt NotHalting u) refl refl in
-    (h .0 ∙ enabled-as afterFetch (s .latch) s refl, h .1 ∙ enabled-as flags (s .latch) s refl)
+    let h : (pc (fetched u) ≡ afterFetch u) × (flags (fetched u) ≡ flags u) × (sp (fetched u) ≡ sp u) = fetched-is (isBug (u .halt)) u (setHalt NotHalting u) refl refl refl in
+    (h .0 ∙ enabled-as afterFetch (s .latch) s refl, h .1 ∙ enabled-as flags (s .latch) s refl, h .2 ∙ enabled-as sp (s .latch) s refl)
 
 module _ {W : Type 0} (b : Bus W) where
   -- the step, as the tree on this memory: what `stepOn` answers of an accepted state
