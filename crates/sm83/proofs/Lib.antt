@@ -12,3 +12,5 @@ pub mod Agreement
 pub mod StepRuns
 pub mod SmallCycles
 pub mod StepCycles
+pub mod Lengths
+pub mod Published
