@@ -8,7 +8,7 @@ use Rattle.sm83.specs.declared.state.Cpu.{Cpu}
 use Rattle.sm83.specs.declared.state.HaltMode.the-variants.{NotHalting}
 use Rattle.sm83.specs.declared.outcome.Outcome.{Outcome}
 use Rattle.sm83.specs.Basics.{if_then_else_}
-use Rattle.sm83.specs.Bus.{isInterrupt, Bus, Ran, runOn, mcycles}
+use Rattle.sm83.specs.Bus.{Idle, isInterrupt, Bus, Ran, runOn, logged, mcycles}
 use Rattle.sm83.specs.State.{flags, setHalt}
 use Rattle.sm83.specs.Instruction.{Instruction, decode}
 use Rattle.sm83.specs.Execution.{Does, _>>_, wait}
@@ -52,22 +52,34 @@ module _ {W : Type 0} (b : Bus W) where
       ∙ ap (λ (d : Does Ended Outcome). mcycles (runOn b (d s ended) (b .afterPeek m) .accesses)) (if-so _ _ i)
 
   -- the memory at which a halt has ended
-  abbrev wokenMemory : Cpu → W → W
+  abbrev pub wokenMemory : Cpu → W → W
   wokenMemory s m = let n : W = b .afterPeek (b .afterIdle m) in if s .dmg then n else b .afterIdle n
 
-  woken-costs : (t : Bool) (s : Cpu) (n : W) → suc (mcycles (runOn b ((if t then awake else (wait >> awake)) s ended) n .accesses)) ≡ (if t then 1 else 2) + mcycles (runOn b (awake s ended) (if t then n else b .afterIdle n) .accesses)
+  -- one idle access, and one more if not DMG
+  abbrev pub waking : Bool → Ran W Ended → Ran W Ended
+  waking true r = logged Idle r
+  waking false r = logged Idle (logged Idle r)
+
+  woken-is : (t : Bool) (s : Cpu) (n : W) → logged Idle (runOn b ((if t then awake else (wait >> awake)) s ended) n) ≡ waking t (runOn b (awake s ended) (if t then n else b .afterIdle n))
   unfolding runOn
-  woken-costs true s n = omega arith
-  woken-costs false s n = omega arith
+  woken-is true s n = refl
+  woken-is false s n = refl
 
   -- 3. "Pending: the halt ends in this very step, one more idle access if not DMG, and the step goes on": as that of the state that halts no more
-  pub waking-adds : (s : Cpu) (m : W) → s .stopped ≡ false → s .hdma ≡ false → isAsleep (s .halt) ≡ true → isInterrupt (b .peeks (b .afterIdle m)) ≡ true → cost s m ≡ (if s .dmg then 1 else 2) + cost (setHalt NotHalting s) (wokenMemory s m)
+  pub step-wakes : (s : Cpu) (m : W) → s .stopped ≡ false → s .hdma ≡ false → isAsleep (s .halt) ≡ true → isInterrupt (b .peeks (b .afterIdle m)) ≡ true → stepped b s m ≡ waking (s .dmg) (stepped b (setHalt NotHalting s) (wokenMemory s m))
   unfolding step runOn
-  waking-adds s m e h a i =
-      ap (λ (d : Does Ended Outcome). mcycles (runOn b (d s ended) m .accesses)) (if-not _ _ e ∙ if-not _ _ h ∙ if-so _ _ a)
-      ∙ ap (λ (d : Does Ended Outcome). suc (mcycles (runOn b (d s ended) (b .afterPeek (b .afterIdle m)) .accesses))) (if-so _ _ i)
-      ∙ woken-costs (s .dmg) (setHalt NotHalting s) (b .afterPeek (b .afterIdle m))
-      ∙ sym (ap (λ (d : Does Ended Outcome). (if s .dmg then 1 else 2) + mcycles (runOn b (d (setHalt NotHalting s) ended) (wokenMemory s m) .accesses)) (if-not _ _ e ∙ if-not _ _ h))
+  step-wakes s m e h a i =
+      ap (λ (d : Does Ended Outcome). runOn b (d s ended) m) (if-not _ _ e ∙ if-not _ _ h ∙ if-so _ _ a)
+      ∙ ap (λ (d : Does Ended Outcome). logged Idle (runOn b (d s ended) (b .afterPeek (b .afterIdle m)))) (if-so _ _ i)
+      ∙ woken-is (s .dmg) (setHalt NotHalting s) (b .afterPeek (b .afterIdle m))
+      ∙ sym (ap (λ (d : Does Ended Outcome). waking (s .dmg) (runOn b (d (setHalt NotHalting s) ended) (wokenMemory s m))) (if-not _ _ e ∙ if-not _ _ h))
+
+  waking-costs : (t : Bool) (r : Ran W Ended) → mcycles (waking t r .accesses) ≡ (if t then 1 else 2) + mcycles (r .accesses)
+  waking-costs true r = omega arith
+  waking-costs false r = omega arith
+
+  pub waking-adds : (s : Cpu) (m : W) → s .stopped ≡ false → s .hdma ≡ false → isAsleep (s .halt) ≡ true → isInterrupt (b .peeks (b .afterIdle m)) ≡ true → cost s m ≡ (if s .dmg then 1 else 2) + cost (setHalt NotHalting s) (wokenMemory s m)
+  waking-adds s m e h a i = ap (λ (r : Ran W Ended). mcycles (r .accesses)) (step-wakes s m e h a i) ∙ waking-costs (s .dmg) _
 
   -- 5 to 7. the instruction's own
   pub instruction-costs : (s : Cpu) (m : W) → Runs b s m → cost s m ≡ suc (cyclesOf (jumps (decode (opcode b s m)) (flags s)) (decode (opcode b s m)) (second b s m))
