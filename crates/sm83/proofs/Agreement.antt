@@ -1,9 +1,7 @@
 -- The published tables are the columns by forms: one computed test of each table over all of its 256 opcodes.
-use mathlib.Core.Path.{_≡_, refl, ap, sym, _∙_}
+use mathlib.Core.Path.{_≡_, refl, ap, _∙_}
 use mathlib.Core.Bool.{Bool, true, false}
-use mathlib.Core.List.{List, [], _∷_}
-use Prim.Native.Nat.{ℕ, suc, _/_, _%_, _<_}
-use lib.ListN.{getD}
+use Prim.Native.Nat.{ℕ, suc, _<_}
 use Rattle.sm83.specs.Basics.{if_then_else_}
 use Rattle.sm83.specs.Instruction.{decode, decodeCB, lengthOf}
 use Rattle.sm83.specs.Published.{FlagColumn, keep, entry, isCB, oneOf, bytes, cyclesNotTaken, cyclesTaken, cyclesAfterCB, flagColumns, flagColumnsAfterCB, illegalOpcodes, publishedBytes, publishedCycles, publishedFlags}

@@ -1,5 +1,5 @@
 -- A fact of every way in which a tree may end, whatever memory answers: of the accesses on the way and of the end. It holds of the tree on every kind of memory.
-use mathlib.Core.Path.{_≡_, refl, ap}
+use mathlib.Core.Path.{_≡_, refl}
 use mathlib.Core.Bool.{Bool, true, false}
 use mathlib.Core.List.{List, [], _∷_}
 use Prim.Native.Nat.{ℕ, suc}
@@ -7,7 +7,7 @@ use lib.ListN.{length}
 use Rattle.sm83.specs.declared.state.Cpu.{Cpu}
 use Rattle.sm83.specs.declared.outcome.Outcome.the-variants.{Normal}
 use Rattle.sm83.specs.Basics.{if_then_else_}
-use Rattle.sm83.specs.Bus.{Kind, Operand, Ask, answer, read, write, idle, peek, writeAndTake, Access, Read, Write, Idle, WriteAndTake, Bus, runOn}
+use Rattle.sm83.specs.Bus.{Operand, Stack, Ask, answer, read, write, idle, peek, writeAndTake, Access, Read, Write, Idle, WriteAndTake, Bus, runOn}
 use Rattle.sm83.specs.State.{pairHL, pc, flags}
 use Rattle.sm83.specs.Instruction.{Reg8, rB, rC, rD, rE, rH, rL, [HL], rA}
 use Rattle.sm83.specs.Execution.{Does, get8, put8}
@@ -29,7 +29,7 @@ ends-on b P (write k a v p) h m = ends-on b (λ l e. P (Write k a v ∷ l) e) p 
 ends-on b P (idle p) h m = ends-on b (λ l e. P (Idle ∷ l) e) p h (b .afterIdle m)
 ends-on b P (peek f) h m = ends-on b P (f (b .peeks m)) (h (b .peeks m)) (b .afterPeek m)
 ends-on b P (writeAndTake a v f) h m =
-    let n = b .afterWrite Rattle.sm83.specs.Bus.Stack m a v in
+    let n = b .afterWrite Stack m a v in
     ends-on b (λ l e. P (WriteAndTake a v ∷ l) e) (f (b .peeks n)) (h (b .peeks n)) (b .afterTake n)
 
 -- either way that a test goes

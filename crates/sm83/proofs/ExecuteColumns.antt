@@ -1,7 +1,7 @@
 -- Every instruction keeps to its columns, for every state and on every kind of memory.
-use mathlib.Core.Path.{_≡_, refl, ap}
+use mathlib.Core.Path.{refl, ap}
 use mathlib.Core.Bool.{Bool, true, false}
-use mathlib.Core.List.{List, [], _∷_}
+use mathlib.Core.List.{List, _∷_}
 use Prim.Native.Nat.{ℕ, suc}
 use Rattle.sm83.specs.declared.state.Cpu.{Cpu}
 use Rattle.sm83.specs.declared.outcome.Outcome.the-variants.{Normal}
@@ -16,7 +16,7 @@ use Rattle.sm83.proofs.Ends.{Ends, ends-on, ends-if}
 use Rattle.sm83.proofs.FlagColumns.{flagsOf, prefixedFlags}
 use Rattle.sm83.proofs.FlagLaws.{same-obeys}
 use Rattle.sm83.proofs.Cycles.{cyclesOf, prefixedCycles, jumps}
-use Rattle.sm83.proofs.Columns.{Columns, Onward, onwards, keeps}
+use Rattle.sm83.proofs.Columns.{Columns, Onward, keeps}
 use Rattle.sm83.proofs.WorkColumns.{work-columns, prefixed-columns}
 use Rattle.sm83.proofs.JumpColumns.{jump-columns}
 

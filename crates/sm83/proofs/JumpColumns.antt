@@ -1,7 +1,7 @@
 -- Each jump keeps to its columns, taken or not, whatever the state and whatever memory answers.
 use mathlib.Core.Path.{_≡_, refl}
 use mathlib.Core.Bool.{Bool, true, false}
-use mathlib.Core.List.{List, [], _∷_}
+use mathlib.Core.List.{List, _∷_}
 use Prim.Native.Nat.{ℕ}
 use lib.Dec.{eqb}
 use Rattle.sm83.specs.declared.state.Cpu.{Cpu}

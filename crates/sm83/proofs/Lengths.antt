@@ -1,23 +1,22 @@
 -- Lengths by where PC ends, where a taken JR lands, and what CALL and RST push: at every state, on every kind of memory.
-use mathlib.Core.Path.{_≡_, refl, ap, sym, _∙_}
-use mathlib.Core.Bool.{Bool, true, false}
+use mathlib.Core.Path.{_≡_, refl, ap, _∙_}
+use mathlib.Core.Bool.{true}
 use mathlib.Core.List.{List, [], _∷_}
 use Prim.Native.Nat.{ℕ, zero, suc, _+_, _%_}
 use native.Mathlib.Omega.{arith}
 use lib.ListN.{drop}
 use Rattle.sm83.specs.declared.state.Cpu.{Cpu}
 use Rattle.sm83.specs.declared.outcome.Outcome.{Outcome}
-use Rattle.sm83.specs.Basics.{if_then_else_, highByte, lowByte, next, back, offset, word}
-use Rattle.sm83.specs.Bus.{Operand, Stack, Access, Write, Bus, Ran, runOn}
+use Rattle.sm83.specs.Basics.{highByte, lowByte, next, back, offset}
+use Rattle.sm83.specs.Bus.{Operand, Stack, Access, Write, Bus, runOn}
 use Rattle.sm83.specs.State.{pc, sp, flags, setPC}
-use Rattle.sm83.specs.Arithmetic.{holds}
 use Rattle.sm83.specs.Instruction.{Cond, JR-e8, CALL-n16, JR-cc-e8, CALL-cc-n16, RST-vec, Instruction, goes, operands}
 use Rattle.sm83.specs.Execution.{Does, executing}
 use Rattle.sm83.specs.Step.{Ended, ended}
+use Rattle.sm83.proofs.Choices.{if-so}
 use Rattle.sm83.proofs.Cycles.{jumps}
 use Rattle.sm83.proofs.Columns.{ahead}
 use Rattle.sm83.proofs.ExecuteColumns.{executed}
-use Rattle.sm83.proofs.StepRuns.{if-so}
 
 -- byte after byte is the sum modulo 65,536
 pub ahead-is : (k a : ℕ) → ahead (suc k) a ≡ (a + suc k) % 65536

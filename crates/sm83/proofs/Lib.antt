@@ -1,4 +1,7 @@
 -- What is proved of the definition.
+
+-- the published columns and the M-cycles of a step
+pub mod Choices
 pub mod Agree
 pub mod Ends
 pub mod FlagColumns

@@ -1,28 +1,27 @@
 -- "the definition is proved to agree with each column at every state": a step that runs an instruction keeps to what is published of its opcode.
 use mathlib.Core.Path.{_≡_, refl, ap, sym, subst, _∙_}
 use mathlib.Core.Bool.{Bool, true, false, not}
-use mathlib.Core.List.{List, [], _∷_}
+use mathlib.Core.List.{_∷_}
 use Prim.Native.Nat.{ℕ, suc, _+_, _%_, _<_}
 use lib.Dec.{T}
 use lib.ListN.{drop}
 use Rattle.sm83.specs.declared.state.Cpu.{Cpu}
 use Rattle.sm83.specs.declared.outcome.Refusal.the-variants.{IllegalOpcode}
-use Rattle.sm83.specs.declared.outcome.Outcome.{Outcome}
 use Rattle.sm83.specs.declared.outcome.Outcome.the-variants.{Refused}
-use Rattle.sm83.specs.Basics.{if_then_else_, next, signed, offset}
-use Rattle.sm83.specs.Bus.{Access, Fetch, Read, Bus, Ran, runOn, logged, mcycles}
+use Rattle.sm83.specs.Basics.{next, offset}
+use Rattle.sm83.specs.Bus.{Fetch, Read, Bus, Ran, runOn, logged, mcycles}
 use Rattle.sm83.specs.State.{pc, sp, flags, setPC}
 use Rattle.sm83.specs.Instruction.{Instruction, does, goes, CB-prefix, HALT, STOP, EI, LD-B-B, ILLEGAL, decode, operands, lengthOf}
 use Rattle.sm83.specs.Execution.{executing}
 use Rattle.sm83.specs.Step.{Ended, isBug, enabled, fetched, admission, accepted, stepOn}
 use Rattle.sm83.specs.Published.{FlagColumn, oneOf, illegalOpcodes, publishedBytes, publishedCycles, publishedFlags}
+use Rattle.sm83.proofs.Choices.{if-so, if-not}
 use Rattle.sm83.proofs.FlagLaws.{Obeys}
 use Rattle.sm83.proofs.Cycles.{jumps}
-use Rattle.sm83.proofs.Columns.{Columns, Begins, ahead, isRefused}
+use Rattle.sm83.proofs.Columns.{Begins, ahead, isRefused}
 use Rattle.sm83.proofs.ExecuteColumns.{isIllegal, executed}
 use Rattle.sm83.proofs.Agreement.{bytes-agree, illegal-agree, cycles-agree, flags-agree}
-use Rattle.sm83.proofs.StepRuns.{Runs, if-not, if-so, afterFetch, starts, stepped, accepted-step, atFetch, opcode, second, rest, step-runs, step-columns}
-use Rattle.sm83.proofs.StepCycles.{instruction-costs}
+use Rattle.sm83.proofs.StepRuns.{Runs, afterFetch, starts, stepped, accepted-step, atFetch, opcode, second, rest, step-runs, step-columns}
 use Rattle.sm83.proofs.Lengths.{ahead-is, ahead-next, Relative, Calling, pushed, relative-lands, calling-pushes}
 
 -- Of the opcode that a step fetches: its published length, the address after it "modulo 65,536", and whether it jumps.

@@ -1,21 +1,18 @@
 -- No instruction takes more than six M-cycles, whatever bytes memory shows.
 use mathlib.Core.Path.{_≡_, refl, ap, sym, subst, _∙_}
 use mathlib.Core.Bool.{Bool, true, false, not}
-use mathlib.Core.List.{List, [], _∷_}
+use mathlib.Core.List.{[], _∷_}
 use Prim.Native.Nat.{ℕ, suc, _/_, _%_, _≤_, _<_}
 use native.Mathlib.Omega.{arith}
 use lib.Dec.{leb, ltb, ltb→lt, nltb→le, T}
-use lib.ListN.{getD, List·getD-eq-default}
+use lib.ListN.{List·getD-eq-default}
 use Rattle.sm83.specs.Basics.{if_then_else_}
 use Rattle.sm83.specs.Instruction.{Reg8, rB, rC, rD, rE, rH, rL, [HL], rA, Instruction, does, ALU-A-r8, alu, reg8, quarter0, loads, quarter3, ILLEGAL, Prefixed, SHIFT-r8, BIT-u3-r8, RES-u3-r8, SET-u3-r8, decode, decodeCB}
 use Rattle.sm83.specs.Published.{isCB}
+use Rattle.sm83.proofs.Choices.{by-cases, if-same}
 use Rattle.sm83.proofs.Agree.{agree}
 use Rattle.sm83.proofs.Ends.{plusHL}
 use Rattle.sm83.proofs.Cycles.{cyclesWith, cyclesOf, prefixedCycles}
-
-pub by-cases : {A : Type 0} (t : Bool) → (t ≡ true → A) → (t ≡ false → A) → A
-by-cases true so not-so = so refl
-by-cases false so not-so = not-so refl
 
 either-HL : (Q : (ℕ → ℕ) → Type 0) → Q (λ n. n) → Q suc → (r : Reg8) → Q (plusHL r)
 either-HL Q p q rB = p
@@ -38,10 +35,6 @@ unfolding decode
 byte-small true n = agree _ _ 256 refl
 byte-small false n = agree _ _ 256 refl
 
-if-same : (t : Bool) → (if t then true else true) ≡ true
-if-same true = refl
-if-same false = refl
-
 no-byte : (x : ℕ) → 256 ≤ x → decode x ≡ ILLEGAL
 unfolding decode
 no-byte x h =
@@ -53,5 +46,5 @@ no-byte x h =
 pub small : (t : Bool) (x y : ℕ) → leb (cyclesOf t (decode x) y) 5 ≡ true
 small t x y =
     by-cases (ltb x 256)
-    (λ e. byte-small t _ x (ltb→lt x 256 (subst T (sym e) tt)) ∙ ap (λ (u : Bool). if isCB x then u else true) (prefixed-small (decodeCB y)) ∙ if-same (isCB x))
+    (λ e. byte-small t _ x (ltb→lt x 256 (subst T (sym e) tt)) ∙ ap (λ (u : Bool). if isCB x then u else true) (prefixed-small (decodeCB y)) ∙ if-same (isCB x) true)
     (λ e. ap (λ (i : Instruction). leb (cyclesOf t i y) 5) (no-byte x (nltb→le x 256 (subst (λ (u : Bool). T (not u)) (sym e) tt))))

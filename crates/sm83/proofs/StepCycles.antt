@@ -13,13 +13,10 @@ use Rattle.sm83.specs.State.{flags, setHalt}
 use Rattle.sm83.specs.Instruction.{Instruction, decode}
 use Rattle.sm83.specs.Execution.{Does, _>>_, wait}
 use Rattle.sm83.specs.Step.{isAsleep, awake, step, Ended, ended, admission, accepted, stepOn}
+use Rattle.sm83.proofs.Choices.{by-cases, if-so, if-not, and-not}
 use Rattle.sm83.proofs.Cycles.{cyclesOf, jumps}
-use Rattle.sm83.proofs.SmallCycles.{by-cases, small}
-use Rattle.sm83.proofs.StepRuns.{Runs, if-not, if-so, stepped, accepted-step, opcode, second, step-runs, step-columns}
-
-and-not : (t u : Bool) → u ≡ false → (t && u) ≡ false
-and-not true u e = e
-and-not false u e = refl
+use Rattle.sm83.proofs.SmallCycles.{small}
+use Rattle.sm83.proofs.StepRuns.{Runs, stepped, accepted-step, opcode, second, step-runs, step-columns}
 
 module _ {W : Type 0} (b : Bus W) where
   -- the M-cycles of a step

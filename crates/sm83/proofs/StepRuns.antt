@@ -1,16 +1,18 @@
 -- A step that runs an instruction is its fetch and its execution: no stop, no HDMA, no sleep, no interrupt.
 use mathlib.Core.Path.{_≡_, refl, ap, subst, _∙_}
 use mathlib.Core.Bool.{Bool, true, false, _&&_}
+use mathlib.Core.List.{List}
 use Prim.Native.Nat.{ℕ}
 use Rattle.sm83.specs.declared.state.Cpu.{Cpu}
 use Rattle.sm83.specs.declared.state.HaltMode.the-variants.{NotHalting}
 use Rattle.sm83.specs.declared.outcome.Outcome.{Outcome}
 use Rattle.sm83.specs.Basics.{if_then_else_, next}
-use Rattle.sm83.specs.Bus.{Fetch, Read, Ask, isInterrupt, Bus, Ran, runOn, logged}
+use Rattle.sm83.specs.Bus.{Fetch, Read, byteAt, plain, Ask, isInterrupt, Bus, Ran, runOn, logged}
 use Rattle.sm83.specs.State.{pc, sp, flags, setPC, setIme, setLatch, setHalt}
 use Rattle.sm83.specs.Instruction.{Instruction, decode, operands}
-use Rattle.sm83.specs.Execution.{Does, execute, asked, _>>=_}
+use Rattle.sm83.specs.Execution.{Does, asked, _>>=_}
 use Rattle.sm83.specs.Step.{isAsleep, isBug, dispatch, enabled, fetched, instruction, awake, step, Ended, ended, stepTree, Admission, admission, accepted, admitted, stepOn}
+use Rattle.sm83.proofs.Choices.{if-not, if-same}
 use Rattle.sm83.proofs.FlagColumns.{flagsOf}
 use Rattle.sm83.proofs.Cycles.{cyclesOf, jumps}
 use Rattle.sm83.proofs.Columns.{Columns}
@@ -22,12 +24,6 @@ pub record Runs {W : Type 0} (b : Bus W) (s : Cpu) (m : W) : Type 0 where
   pub no-hdma : s .hdma ≡ false
   pub not-asleep : isAsleep (s .halt) ≡ false
   pub uninterrupted : (s .ime && isInterrupt (b .peeks m)) ≡ false
-
-pub if-not : {A : Type 0} {t : Bool} (p q : A) → t ≡ false → (if t then p else q) ≡ q
-if-not p q e = ap (λ (t : Bool). if t then p else q) e
-
-pub if-so : {A : Type 0} {t : Bool} (p q : A) → t ≡ true → (if t then p else q) ≡ p
-if-so p q e = ap (λ (t : Bool). if t then p else q) e
 
 -- PC after the fetch: "HaltBug ends here and PC goes back to its value before the fetch"
 abbrev pub afterFetch : Cpu → ℕ
@@ -103,3 +99,14 @@ module _ {W : Type 0} (b : Bus W) where
       subst (λ (p : ℕ). Row s m p (flags s)) (starts s .0)
       (subst (λ (f : ℕ). Row s m (pc (fetched (enabled s))) f) (starts s .1)
       (execute-columns b (pc s) (decode (opcode s m)) (fetched (enabled s)) (b .afterRead Fetch (atFetch s m) (pc s))))
+
+-- On plain memory the two bytes are those that stand there.
+
+plain-at-fetch : (s : Cpu) (m : List ℕ) → atFetch plain s m ≡ m
+plain-at-fetch s m = if-same (s .ime) m
+
+pub plain-opcode : (s : Cpu) (m : List ℕ) → opcode plain s m ≡ byteAt m (pc s)
+plain-opcode s m = ap (λ (n : List ℕ). byteAt n (pc s)) (plain-at-fetch s m)
+
+pub plain-second : (s : Cpu) (m : List ℕ) → second plain s m ≡ byteAt m (afterFetch s)
+plain-second s m = ap (λ (n : List ℕ). byteAt n (afterFetch s)) (plain-at-fetch s m)

@@ -1,7 +1,7 @@
 -- Each instruction that goes on to the next keeps to its columns, whatever the state and whatever memory answers.
 use mathlib.Core.Path.{_≡_, refl, ap, _∙_}
-use mathlib.Core.List.{List, [], _∷_}
-use Prim.Native.Nat.{ℕ, suc, _/_, _%_, _*_}
+use mathlib.Core.List.{[]}
+use Prim.Native.Nat.{ℕ, suc}
 use lib.ListN.{length}
 use Rattle.sm83.specs.declared.registers.CpuRegisters.{CpuRegisters}
 use Rattle.sm83.specs.declared.state.Cpu.{Cpu}
