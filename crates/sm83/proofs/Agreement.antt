@@ -5,7 +5,7 @@ use Prim.Native.Nat.{ℕ, suc, _<_}
 use Rattle.sm83.specs.Basics.{if_then_else_}
 use Rattle.sm83.specs.Instruction.{decode, decodeCB, lengthOf}
 use Rattle.sm83.specs.Published.{FlagColumn, keep, entry, isCB, oneOf, bytes, cyclesNotTaken, cyclesTaken, cyclesAfterCB, flagColumns, flagColumnsAfterCB, illegalOpcodes, publishedBytes, publishedCycles, publishedFlags}
-use Rattle.sm83.proofs.Agree.{agree}
+use Rattle.sm83.proofs.Tested.{agree}
 use Rattle.sm83.proofs.FlagColumns.{flagsWith, flagsOf, prefixedFlags}
 use Rattle.sm83.proofs.Cycles.{cyclesWith, cyclesOf, prefixedCycles}
 use Rattle.sm83.proofs.ExecuteColumns.{isIllegal}

@@ -1,14 +1,15 @@
 -- The flags column as a law of F before and after, and the proof that the arithmetic keeps to its columns.
 use mathlib.Core.Path.{_≡_, refl, ap, sym, subst, _∙_}
 use mathlib.Core.Bool.{Bool, true, false, not, _||_, _&&_}
-use Prim.Native.Nat.{ℕ, _+_, _-_, _*_, _/_, _%_, _≤_}
+use Prim.Native.Nat.{ℕ, _+_, _-_, _*_, _/_, _%_}
 use native.Mathlib.Omega.{arith}
 use lib.Dec.{eqb, leb, ltb}
 use lib.Bits.{bitAnd, bitOr, bitXor}
-use Rattle.sm83.specs.Basics.{bit, bitAt}
+use Rattle.sm83.specs.Basics.{bitAt}
 use Rattle.sm83.specs.Arithmetic.{flagByte, flagZ, flagN, flagH, flagC, carry, isZero, Result, sum, difference, shifted, withoutZ, aluOp, accOp, shiftOp, increment, decrement, bitTest, wordSumFlags, offsetFlags, daa}
 use Rattle.sm83.specs.Instruction.{Alu, ADD, ADC, SUB, SBC, AND, XOR, OR, CP, Acc, RLCA, RRCA, RLA, RRA, DAA, CPL, SCF, CCF, Shift, RLC, RRC, RL, RR, SLA, SRA, SWAP, SRL}
 use Rattle.sm83.specs.Published.{FlagColumn, keep, ZNHC, Z0HC, Z1HC, Z0H-, Z1H-, Z000, Z010, Z01-, Z00C, Z-0C, -0HC, -11-, -001, -00C, 00HC, 000C, Effect, kept, is-0, is-1, computed, effects}
+use Rattle.sm83.proofs.Flags.{read-Z, read-N, read-H, read-C, low-bits-0}
 use Rattle.sm83.proofs.FlagColumns.{aluFlags, accFlags, shiftFlags}
 
 -- The flags f become g as the column says: each of the four, and "the low four bits of F are always 0".
@@ -26,42 +27,16 @@ pub record Obeys (column : FlagColumn) (f g : ℕ) : Type 0 where
   pub of-C : Follows (effects column .on-C) (flagC f) (flagC g)
   pub low-bits : f % 16 ≡ 0 → g % 16 ≡ 0
 
--- The four flags of a byte made of four.
-
-bit-small : (t : Bool) → bit t ≤ 1
-bit-small true = omega arith
-bit-small false = omega arith
-
-bit-says : (x : ℕ) (t : Bool) → x ≡ bit t → eqb x 1 ≡ t
-bit-says x true e = ap (λ (y : ℕ). eqb y 1) e
-bit-says x false e = ap (λ (y : ℕ). eqb y 1) e
-
-module _ (z n h c : Bool) where
-  small : (bit z ≤ 1) × (bit n ≤ 1) × (bit h ≤ 1) × (bit c ≤ 1)
-  small = (bit-small z, bit-small n, bit-small h, bit-small c)
-
-  says-Z : flagZ (flagByte z n h c) ≡ z
-  says-Z = bit-says (flagByte z n h c / 128 % 2) z (omega (arith, small))
-
-  says-N : flagN (flagByte z n h c) ≡ n
-  says-N = bit-says (flagByte z n h c / 64 % 2) n (omega (arith, small))
-
-  says-H : flagH (flagByte z n h c) ≡ h
-  says-H = bit-says (flagByte z n h c / 32 % 2) h (omega (arith, small))
-
-  says-C : flagC (flagByte z n h c) ≡ c
-  says-C = bit-says (flagByte z n h c / 16 % 2) c (omega (arith, small))
-
-  -- what each of the four does, the byte does
-  obeys : (column : FlagColumn) (f : ℕ) → Follows (effects column .on-Z) (flagZ f) z → Follows (effects column .on-N) (flagN f) n → Follows (effects column .on-H) (flagH f) h → Follows (effects column .on-C) (flagC f) c → Obeys column f (flagByte z n h c)
-  obeys column f on-z on-n on-h on-c =
-      record {
-        of-Z = subst (Follows (effects column .on-Z) (flagZ f)) (sym says-Z) on-z;
-        of-N = subst (Follows (effects column .on-N) (flagN f)) (sym says-N) on-n;
-        of-H = subst (Follows (effects column .on-H) (flagH f)) (sym says-H) on-h;
-        of-C = subst (Follows (effects column .on-C) (flagC f)) (sym says-C) on-c;
-        low-bits = λ e. omega (arith, small);
-      }
+-- What each of four flags does, the byte made of them does.
+obeys : (z n h c : Bool) (column : FlagColumn) (f : ℕ) → Follows (effects column .on-Z) (flagZ f) z → Follows (effects column .on-N) (flagN f) n → Follows (effects column .on-H) (flagH f) h → Follows (effects column .on-C) (flagC f) c → Obeys column f (flagByte z n h c)
+obeys z n h c column f on-z on-n on-h on-c =
+    record {
+      of-Z = subst (Follows (effects column .on-Z) (flagZ f)) (sym (read-Z z n h c)) on-z;
+      of-N = subst (Follows (effects column .on-N) (flagN f)) (sym (read-N z n h c)) on-n;
+      of-H = subst (Follows (effects column .on-H) (flagH f)) (sym (read-H z n h c)) on-h;
+      of-C = subst (Follows (effects column .on-C) (flagC f)) (sym (read-C z n h c)) on-c;
+      low-bits = λ e. low-bits-0 z n h c;
+    }
 
 -- The arithmetic keeps to the columns.
 

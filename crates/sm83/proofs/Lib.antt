@@ -1,8 +1,13 @@
--- What is proved of the definition.
-
+pub mod Tested
+pub mod Flags
+pub mod Carries
+pub mod WordCarries
+pub mod Shifts
+pub mod SingleBits
+pub mod Logic
+pub mod Decimal
 -- the published columns and the M-cycles of a step
 pub mod Choices
-pub mod Agree
 pub mod Ends
 pub mod FlagColumns
 pub mod FlagLaws

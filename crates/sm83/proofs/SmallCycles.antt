@@ -10,7 +10,7 @@ use Rattle.sm83.specs.Basics.{if_then_else_}
 use Rattle.sm83.specs.Instruction.{Reg8, rB, rC, rD, rE, rH, rL, [HL], rA, Instruction, does, ALU-A-r8, alu, reg8, quarter0, loads, quarter3, ILLEGAL, Prefixed, SHIFT-r8, BIT-u3-r8, RES-u3-r8, SET-u3-r8, decode, decodeCB}
 use Rattle.sm83.specs.Published.{isCB}
 use Rattle.sm83.proofs.Choices.{by-cases, if-same}
-use Rattle.sm83.proofs.Agree.{agree}
+use Rattle.sm83.proofs.Tested.{agree}
 use Rattle.sm83.proofs.Ends.{plusHL}
 use Rattle.sm83.proofs.Cycles.{cyclesWith, cyclesOf, prefixedCycles}
 

@@ -4,6 +4,11 @@ use Rattle.sm83.specs.declared.outcome.Refusal.{Refusal}
 use Rattle.sm83.specs.declared.outcome.Refusal.the-variants.{MemoryLength, LowBitsOfF, IllegalOpcode, WindowReversed, WindowTooLong, MarksLength, ForbiddenOpcode, PastTheEnd, FallsThrough, JumpUnmarked}
 use Rattle.sm83.specs.declared.outcome.Outcome.{Outcome}
 use Rattle.sm83.specs.declared.outcome.Outcome.the-variants.{Normal, InfiniteLoop, Halting, RunningHDMA, Stopped, RunningInterrupt, Breakpoint, Refused}
+use Rattle.sm83.specs.declared.outcome.LastOutcome.{LastOutcome}
+use Rattle.sm83.specs.declared.outcome.LastOutcome.the-variants.{NothingRun, Last}
+use Rattle.sm83.specs.declared.outcome.Verdict.{Verdict}
+use Rattle.sm83.specs.declared.outcome.Verdict.the-variants.{Passes, RefusedAt}
+use Rattle.sm83.specs.declared.outcome.Verdict.the-variants as verdicts
 
 -- the table of "When the core says no"
 abbrev pub numberOf : Refusal → ℕ
@@ -28,3 +33,14 @@ outcomeNumber Stopped = 4
 outcomeNumber (Breakpoint r) = 5
 outcomeNumber (RunningInterrupt i) = 8 + i
 outcomeNumber (Refused r) = 16 + numberOf r
+
+-- a run's last outcome; "nothing run" has 6, which no outcome has
+abbrev pub lastNumber : LastOutcome → ℕ
+lastNumber NothingRun = 6
+lastNumber (Last o) = outcomeNumber o
+
+-- the screen's verdict: 0 if it passes, else the refusal's number
+abbrev pub verdictNumber : Verdict → ℕ
+verdictNumber Passes = 0
+verdictNumber (verdicts.Refused r) = numberOf r
+verdictNumber (RefusedAt r a) = numberOf r

@@ -1,6 +1,6 @@
 // What the core answers: how a step ended, or why it was refused. The numbers are the document's.
 ghost use mathlib.Core.Path.{_≡_};
-ghost use Rattle.sm83.specs.Numbers.{numberOf, outcomeNumber};
+ghost use Rattle.sm83.specs.Numbers.{numberOf, outcomeNumber, lastNumber, verdictNumber};
 use crate::addr::Addr;
 use crate::registers::CpuRegisters;
 
@@ -75,9 +75,35 @@ pub enum LastOutcome {
     Last(Outcome),
 }
 
+impl LastOutcome {
+    pub fn number(self) -> u16
+        ensures { λ r. ⌜ r ≡ lastNumber self ⌝ }
+    {
+        let last = self;
+        match last {
+            LastOutcome::NothingRun => 6,
+            LastOutcome::Last(outcome) => outcome.number(),
+        }
+    }
+}
+
 // What the screen says of a window. A refusal from before the walk names no address.
 pub enum Verdict {
     Passes,
     Refused(Refusal),
     RefusedAt(Refusal, Addr),
+}
+
+impl Verdict {
+    // 0, or the refusal's number.
+    pub fn number(self) -> u8
+        ensures { λ r. ⌜ r ≡ verdictNumber self ⌝ }
+    {
+        let verdict = self;
+        match verdict {
+            Verdict::Passes => 0,
+            Verdict::Refused(refusal) => refusal.number(),
+            Verdict::RefusedAt(refusal, _) => refusal.number(),
+        }
+    }
 }
