@@ -1,2 +1,3 @@
 -- What is proved of the definition.
 pub mod Compose
+pub mod Parts
