@@ -1,3 +1,5 @@
 -- What is proved of the definition.
 pub mod Compose
 pub mod Parts
+pub mod Bytes
+pub mod Ranged
