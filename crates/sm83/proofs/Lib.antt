@@ -3,3 +3,7 @@ pub mod Compose
 pub mod Parts
 pub mod Bytes
 pub mod Ranged
+pub mod Keeping
+pub mod KeepingExecution
+pub mod Ranges
+pub mod KeepingStep
