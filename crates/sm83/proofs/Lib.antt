@@ -7,3 +7,4 @@ pub mod Keeping
 pub mod KeepingExecution
 pub mod Ranges
 pub mod KeepingStep
+pub mod Runs

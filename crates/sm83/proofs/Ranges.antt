@@ -14,11 +14,12 @@ use Rattle.sm83.specs.declared.outcome.LastOutcome.the-variants.{Nothing
 use Rattle.sm83.specs.Basics.{if_then_else_, cleared}
 use Rattle.sm83.specs.Bus.{Kind, Stack, Ask, answer, read, write, idle, peek, writeAndTake, Bus, Ran, runOn, byteAt, isInterrupt, pending, taken, plain}
 use Rattle.sm83.specs.Step.{Ended, ended, stepTree, Admission, accepted, refusedAs, admission, admitted, stepOn}
-use Rattle.sm83.specs.Run.{stopsRun, RunAnswer, repeated, admittedRun, runFor}
+use Rattle.sm83.specs.Run.{runFor}
 use Rattle.sm83.proofs.Ranged.{Ranged, cleared-byte}
 use Rattle.sm83.proofs.Keeping.{Safe}
 use Rattle.sm83.proofs.KeepingExecution.{OutcomeRanged}
 use Rattle.sm83.proofs.KeepingStep.{step-keeps}
+use Rattle.sm83.proofs.Runs.{LastSays, run-keeps}
 
 -- A memory whose length no access changes.
 pub record Sized {W : Type 0} (b : Bus W) : Type 0 where
@@ -41,40 +42,63 @@ pub record Lawful {W : Type 0} (b : Bus W) (Good : W → Type 0) : Type 0 where
 -- The length of memory, for every state.
 
 module _ {W : Type 0} (b : Bus W) (sized : Sized b) where
-  run-size : {A : Type 0} (p : Ask A) (m : W) → b .size (runOn b p m .memory) ≡ b .size m
+  tree-size : {A : Type 0} (p : Ask A) (m : W) → b .size (runOn b p m .memory) ≡ b .size m
   unfolding runOn
-  run-size (answer a) m = refl
-  run-size (read k a f) m = run-size (f (b .sees m a)) (b .afterRead k m a) ∙ sized .by-read k m a
-  run-size (write k a v p) m = run-size p (b .afterWrite k m a v) ∙ sized .by-write k m a v
-  run-size (idle p) m = run-size p (b .afterIdle m) ∙ sized .by-idle m
-  run-size (peek f) m = run-size (f (b .peeks m)) (b .afterPeek m) ∙ sized .by-peek m
-  run-size (writeAndTake a v f) m =
-      run-size (f (b .peeks (b .afterWrite Stack m a v))) (b .afterTake (b .afterWrite Stack m a v)) ∙ sized .by-take (b .afterWrite Stack m a v) ∙ sized .by-write Stack m a v
+  tree-size (answer a) m = refl
+  tree-size (read k a f) m = tree-size (f (b .sees m a)) (b .afterRead k m a) ∙ sized .by-read k m a
+  tree-size (write k a v p) m = tree-size p (b .afterWrite k m a v) ∙ sized .by-write k m a v
+  tree-size (idle p) m = tree-size p (b .afterIdle m) ∙ sized .by-idle m
+  tree-size (peek f) m = tree-size (f (b .peeks m)) (b .afterPeek m) ∙ sized .by-peek m
+  tree-size (writeAndTake a v f) m =
+      tree-size (f (b .peeks (b .afterWrite Stack m a v))) (b .afterTake (b .afterWrite Stack m a v)) ∙ sized .by-take (b .afterWrite Stack m a v) ∙ sized .by-write Stack m a v
 
   admitted-size : (v : Admission) (s : Cpu) (m : W) → b .size (admitted v b s m .memory) ≡ b .size m
-  admitted-size accepted s m = run-size (stepTree s) m
+  admitted-size accepted s m = tree-size (stepTree s) m
   admitted-size (refusedAs r) s m = refl
 
   pub step-size : (s : Cpu) (m : W) → b .size (stepOn b s m .memory) ≡ b .size m
   unfolding stepOn
   step-size s m = admitted-size (admission b s m) s m
 
-  size-either : (t : Bool) (x y : RunAnswer W) (n : ℕ) → b .size (x .memory) ≡ n → b .size (y .memory) ≡ n → b .size ((if t then x else y) .memory) ≡ n
-  size-either true x y n p q = p
-  size-either false x y n p q = q
+  pub run-size : (budget : ℕ) (s : Cpu) (m : W) → b .size (runFor b budget s m .memory) ≡ b .size m
+  run-size budget s m =
+      run-keeps b (λ t w. b .size w ≡ b .size m) (λ o. Unit {0}) (λ t w e. (step-size t w ∙ e, tt)) budget s m (λ r. tt) refl .0
 
-  repeated-size : (o : LastOutcome) (budget : ℕ) (s : Cpu) (m : W) → b .size (repeated b o budget s m .memory) ≡ b .size m
-  unfolding repeated
-  repeated-size o zero s m = refl
-  repeated-size o (suc budget) s m =
-      let r : Ran W Ended = stepOn b s m in
-      size-either (stopsRun (r .value .outcome)) _ _ (b .size m) (step-size s m)
-      (repeated-size (Last (r .value .outcome)) budget (r .value .cpu) (r .memory) ∙ step-size s m)
+-- The ranges.
 
-  admittedRun-size : (v : Admission) (budget : ℕ) (s : Cpu) (m : W) → b .size (admittedRun v b budget s m .memory) ≡ b .size m
-  admittedRun-size accepted budget s m = repeated-size NothingRun budget s m
-  admittedRun-size (refusedAs r) budget s m = refl
+abbrev pub EndRanged : Ended → Type 0
+EndRanged e = OutcomeRanged (e .outcome) × Ranged (e .cpu .registers)
 
-  pub run-keeps-size : (budget : ℕ) (s : Cpu) (m : W) → b .size (runFor b budget s m .memory) ≡ b .size m
-  unfolding runFor
-  run-keeps-size budget s m = admittedRun-size (admission b s m) budget s m
+module _ {W : Type 0} (b : Bus W) (Good : W → Type 0) (law : Lawful b Good) where
+  tree-ranges : {A : Type 0} (Q : A → Type 0) (p : Ask A) (m : W) → Safe Q p → Good m → Q (runOn b p m .value) × Good (runOn b p m .memory)
+  unfolding runOn
+  tree-ranges Q (answer a) m h g = (h, g)
+  tree-ranges Q (read k a f) m h g =
+      tree-ranges Q (f (b .sees m a)) (b .afterRead k m a) (h .1 (b .sees m a) (law .shows m a g (h .0))) (law .read-good k m a g (h .0))
+  tree-ranges Q (write k a v p) m h g = tree-ranges Q p (b .afterWrite k m a v) (h .2) (law .write-good k m a v g (h .0) (h .1))
+  tree-ranges Q (idle p) m h g = tree-ranges Q p (b .afterIdle m) h (law .idle-good m g)
+  tree-ranges Q (peek f) m h g = tree-ranges Q (f (b .peeks m)) (b .afterPeek m) (h (b .peeks m) (law .peeks-at m g)) (law .peek-good m g)
+  tree-ranges Q (writeAndTake a v f) m h g =
+      let w : W = b .afterWrite Stack m a v in
+      let good : Good w = law .write-good Stack m a v g (h .0) (h .1) in
+      tree-ranges Q (f (b .peeks w)) (b .afterTake w) (h .2 (b .peeks w) (law .peeks-at w good)) (law .take-good w good)
+
+  tree-safe : (s : Cpu) → Ranged (s .registers) → Safe EndRanged (stepTree s)
+  tree-safe s r = step-keeps .from s ended r (λ o t p q. (p, q))
+
+  -- every register in its range with F's low bits 0, and a good memory
+  abbrev pub InRange : Cpu → W → Type 0
+  InRange s m = Ranged (s .registers) × Good m
+
+  admitted-ranges : (v : Admission) (s : Cpu) (m : W) → InRange s m → InRange (admitted v b s m .value .cpu) (admitted v b s m .memory) × OutcomeRanged (admitted v b s m .value .outcome)
+  admitted-ranges accepted s m h =
+      let e : EndRanged (runOn b (stepTree s) m .value) × Good (runOn b (stepTree s) m .memory) = tree-ranges EndRanged (stepTree s) m (tree-safe s (h .0)) (h .1) in
+      ((e .0 .1, e .1), e .0 .0)
+  admitted-ranges (refusedAs r) s m h = (h, tt)
+
+  pub step-ranges : (s : Cpu) (m : W) → InRange s m → InRange (stepOn b s m .value .cpu) (stepOn b s m .memory) × OutcomeRanged (stepOn b s m .value .outcome)
+  unfolding stepOn
+  step-ranges s m h = admitted-ranges (admission b s m) s m h
+
+  pub run-ranges : (budget : ℕ) (s : Cpu) (m : W) → InRange s m → InRange (runFor b budget s m .cpu) (runFor b budget s m .memory) × LastSays OutcomeRanged (runFor b budget s m .last)
+  run-ranges budget s m h = run-keeps b InRange OutcomeRanged step-ranges budget s m (λ r. tt) h
