@@ -5,6 +5,8 @@ pub mod Bytes
 pub mod Ranged
 pub mod Keeping
 pub mod KeepingExecution
+pub mod OneBit
+pub mod Interrupts
 pub mod Ranges
 pub mod KeepingStep
 pub mod Runs
