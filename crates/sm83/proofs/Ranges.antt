@@ -5,9 +5,10 @@ use mathlib.Core.Bool.{Bool, true, false}
 use mathlib.Core.List.{List}
 use Prim.Native.Nat.{ℕ, zero, suc, _-_, _≤_, _<_}
 use native.Mathlib.Omega.{arith}
-use lib.Dec.{eqb}
+use lib.Dec.{eqb, ltb}
 use lib.ListN.{getD, set, length, length-set}
 use lib.Seq.{getD-set-same, getD-set-other, set-out}
+use borrow.Author.Tests.{ltb-true, ltb-false, eqb-true, eqb-false}
 use Rattle.sm83.specs.declared.state.Cpu.{Cpu}
 use Rattle.sm83.specs.declared.outcome.LastOutcome.{LastOutcome}
 use Rattle.sm83.specs.declared.outcome.LastOutcome.the-variants.{NothingRun, Last}
@@ -16,6 +17,7 @@ use Rattle.sm83.specs.Bus.{Kind, Stack, Ask, answer, read, write, idle, 
 use Rattle.sm83.specs.Step.{Ended, ended, stepTree, Admission, accepted, refusedAs, admission, admitted, stepOn}
 use Rattle.sm83.specs.Run.{runFor}
 use Rattle.sm83.proofs.Ranged.{Ranged, cleared-byte}
+use Rattle.sm83.proofs.Interrupts.{pending-most}
 use Rattle.sm83.proofs.Keeping.{Safe}
 use Rattle.sm83.proofs.KeepingExecution.{OutcomeRanged}
 use Rattle.sm83.proofs.KeepingStep.{step-keeps}
@@ -66,7 +68,11 @@ module _ {W : Type 0} (b : Bus W) (sized : Sized b) where
 
 -- The ranges.
 
-abbrev pub EndRanged : Ended → Type 0
+-- every register in its range with F's low bits 0, and a good memory
+abbrev pub InRange : {W : Type 0} → (W → Type 0) → Cpu → W → Type 0
+InRange Good s m = Ranged (s .registers) × Good m
+
+abbrev EndRanged : Ended → Type 0
 EndRanged e = OutcomeRanged (e .outcome) × Ranged (e .cpu .registers)
 
 module _ {W : Type 0} (b : Bus W) (Good : W → Type 0) (law : Lawful b Good) where
@@ -86,19 +92,67 @@ module _ {W : Type 0} (b : Bus W) (Good : W → Type 0) (law : Lawful b Good) wh
   tree-safe : (s : Cpu) → Ranged (s .registers) → Safe EndRanged (stepTree s)
   tree-safe s r = step-keeps .from s ended r (λ o t p q. (p, q))
 
-  -- every register in its range with F's low bits 0, and a good memory
-  abbrev pub InRange : Cpu → W → Type 0
-  InRange s m = Ranged (s .registers) × Good m
-
-  admitted-ranges : (v : Admission) (s : Cpu) (m : W) → InRange s m → InRange (admitted v b s m .value .cpu) (admitted v b s m .memory) × OutcomeRanged (admitted v b s m .value .outcome)
+  admitted-ranges : (v : Admission) (s : Cpu) (m : W) → InRange Good s m → InRange Good (admitted v b s m .value .cpu) (admitted v b s m .memory) × OutcomeRanged (admitted v b s m .value .outcome)
   admitted-ranges accepted s m h =
       let e : EndRanged (runOn b (stepTree s) m .value) × Good (runOn b (stepTree s) m .memory) = tree-ranges EndRanged (stepTree s) m (tree-safe s (h .0)) (h .1) in
       ((e .0 .1, e .1), e .0 .0)
   admitted-ranges (refusedAs r) s m h = (h, tt)
 
-  pub step-ranges : (s : Cpu) (m : W) → InRange s m → InRange (stepOn b s m .value .cpu) (stepOn b s m .memory) × OutcomeRanged (stepOn b s m .value .outcome)
+  pub step-ranges : (s : Cpu) (m : W) → InRange Good s m → InRange Good (stepOn b s m .value .cpu) (stepOn b s m .memory) × OutcomeRanged (stepOn b s m .value .outcome)
   unfolding stepOn
   step-ranges s m h = admitted-ranges (admission b s m) s m h
 
-  pub run-ranges : (budget : ℕ) (s : Cpu) (m : W) → InRange s m → InRange (runFor b budget s m .cpu) (runFor b budget s m .memory) × LastSays OutcomeRanged (runFor b budget s m .last)
-  run-ranges budget s m h = run-keeps b InRange OutcomeRanged step-ranges budget s m (λ r. tt) h
+  pub run-ranges : (budget : ℕ) (s : Cpu) (m : W) → InRange Good s m → InRange Good (runFor b budget s m .cpu) (runFor b budget s m .memory) × LastSays OutcomeRanged (runFor b budget s m .last)
+  run-ranges budget s m h = run-keeps b (InRange Good) OutcomeRanged step-ranges budget s m (λ r. tt) h
+
+-- Plain memory: "never changes the length of memory" for every state and every list; every byte stays a byte.
+
+abbrev pub Bytes : List ℕ → Type 0
+Bytes m = (a : ℕ) → byteAt m a < 256
+
+taken-length : (m : List ℕ) (t : Bool) (a v : ℕ) → length (if t then set m a v else m) ≡ length m
+taken-length m true a v = length-set m a v
+taken-length m false a v = refl
+
+pub plain-sized : Sized plain
+unfolding taken
+plain-sized =
+    record {
+      by-read = λ k m a. refl;
+      by-write = λ k m a v. length-set m a v;
+      by-idle = λ m. refl;
+      by-peek = λ m. refl;
+      by-take = λ m. taken-length m (isInterrupt (pending m)) 0xff0f (cleared (pending m) (byteAt m 0xff0f));
+    }
+
+pub step-length : (s : Cpu) (m : List ℕ) → length (stepOn plain s m .memory) ≡ length m
+step-length s m = step-size plain plain-sized s m
+
+pub run-length : (budget : ℕ) (s : Cpu) (m : List ℕ) → length (runFor plain budget s m .memory) ≡ length m
+run-length budget s m = run-size plain plain-sized budget s m
+
+set-there : (m : List ℕ) (a v : ℕ) (t : Bool) → ltb a (length m) ≡ t → Bytes m → v < 256 → byteAt (set m a v) a < 256
+set-there m a v true e g p = subst (λ (x : ℕ). x < 256) (sym (getD-set-same m a v 0 (ltb-true a (length m) e))) p
+set-there m a v false e g p = subst (λ (l : List ℕ). byteAt l a < 256) (sym (set-out m a v (ltb-false a (length m) e))) (g a)
+
+set-bytes : (m : List ℕ) (a v x : ℕ) (t : Bool) → eqb x a ≡ t → Bytes m → v < 256 → byteAt (set m a v) x < 256
+set-bytes m a v x true e g p =
+    subst (λ (y : ℕ). byteAt (set m a v) y < 256) (sym (eqb-true x a e)) (set-there m a v (ltb a (length m)) refl g p)
+set-bytes m a v x false e g p = subst (λ (y : ℕ). y < 256) (sym (getD-set-other m a x v 0 (eqb-false x a e))) (g x)
+
+taken-bytes : (m : List ℕ) (t : Bool) (v : ℕ) → v < 256 → Bytes m → Bytes (if t then set m 0xff0f v else m)
+taken-bytes m true v p g = λ x. set-bytes m 0xff0f v x (eqb x 0xff0f) refl g p
+taken-bytes m false v p g = g
+
+pub plain-lawful : Lawful plain Bytes
+unfolding taken
+plain-lawful =
+    record {
+      shows = λ m a g p. g a;
+      peeks-at = λ m g. pending-most m;
+      read-good = λ k m a g p. g;
+      write-good = λ k m a v g p q x. set-bytes m a v x (eqb x a) refl g q;
+      idle-good = λ m g. g;
+      peek-good = λ m g. g;
+      take-good = λ m g. taken-bytes m (isInterrupt (pending m)) (cleared (pending m) (byteAt m 0xff0f)) (cleared-byte (pending m) (byteAt m 0xff0f) (g 0xff0f)) g;
+    }
