@@ -10,3 +10,5 @@ pub mod Interrupts
 pub mod Ranges
 pub mod KeepingStep
 pub mod Runs
+pub mod Course
+pub mod NeverRefuses
