@@ -94,3 +94,38 @@ module _ {W : Type 0} (b : Bus W) (s : Cpu) (m : W) where
   pub course : Course b s m (runOn b (stepTree s) m)
   unfolding step
   course = by-stopped (s .stopped) refl
+
+-- The same, from the points that a state is known to meet.
+module _ {W : Type 0} (b : Bus W) where
+  -- a choice whose test is known
+  chosen : (p q : Does Ended Outcome) (s : Cpu) (m : W) {x y : Bool} → x ≡ y → runOn b ((if x then p else q) s ended) m ≡ runOn b ((if y then p else q) s ended) m
+  chosen p q s m e = ap (λ (z : Bool). runOn b ((if z then p else q) s ended) m) e
+
+  from-three : (s : Cpu) (m : W) {a : Bool} → s .stopped ≡ false → s .hdma ≡ false → isAsleep (s .halt) ≡ a → runOn b (stepTree s) m ≡ runOn b (from3 a s ended) m
+  unfolding step
+  from-three s m r h a =
+      chosen (do wait; give Stopped) (from2 (s .hdma) (isAsleep (s .halt))) s m r
+      ∙ chosen (do wait; give RunningHDMA) (from3 (isAsleep (s .halt))) s m h
+      ∙ ap (λ (z : Bool). runOn b (from3 z s ended) m) a
+
+  roused : (s : Cpu) (m : W) {d : Bool} → isInterrupt (b .peeks (b .afterIdle m)) ≡ true → s .dmg ≡ d → runOn b (from3 true s ended) m ≡ after (Idle ∷ []) (runOn b ((if d then awake else (do wait; awake)) (setHalt NotHalting s) ended) (b .afterPeek (b .afterIdle m)))
+  unfolding runOn
+  roused s m p d =
+      ap (after (Idle ∷ [])) (chosen woken (give Halting) s (b .afterPeek (b .afterIdle m)) p ∙ chosen awake (do wait; awake) (setHalt NotHalting s) (b .afterPeek (b .afterIdle m)) d)
+
+  pub wakes : (s : Cpu) (m : W) {l : List Access} {t : Cpu} {w : W} → s .stopped ≡ false → s .hdma ≡ false → Woke b s m l t w → runOn b (stepTree s) m ≡ after l (runOn b (awake t ended) w)
+  unfolding runOn
+  wakes s m r h (was-awake a) = from-three s m r h a
+  wakes s m r h (woke-dmg a p d) = from-three s m r h a ∙ roused s m p d
+  wakes s m r h (woke-cgb a p d) = from-three s m r h a ∙ roused s m p d
+
+  pub passes : (t : Cpu) (w : W) {v : W} → Passed b t w v → runOn b (awake t ended) w ≡ runOn b (instruction t ended) v
+  unfolding awake runOn
+  passes t w (ime-clear i) = chosen (do j ← asked; if isInterrupt j then dispatch else instruction) instruction t w i
+  passes t w (none-pending i p) =
+      chosen (do j ← asked; if isInterrupt j then dispatch else instruction) instruction t w i ∙ chosen dispatch instruction t (b .afterPeek w) p
+
+  pub dispatches : (t : Cpu) (w : W) → t .ime ≡ true → isInterrupt (b .peeks w) ≡ true → runOn b (awake t ended) w ≡ runOn b (dispatch t ended) (b .afterPeek w)
+  unfolding awake runOn
+  dispatches t w i p =
+      chosen (do j ← asked; if isInterrupt j then dispatch else instruction) instruction t w i ∙ chosen dispatch instruction t (b .afterPeek w) p
