@@ -9,7 +9,7 @@ use Rattle.sm83.specs.declared.outcome.Outcome.{Outcome}
 use Rattle.sm83.specs.declared.outcome.Outcome.the-variants.{Halting, RunningHDMA, Stopped}
 use Rattle.sm83.specs.Basics.{if_then_else_}
 use Rattle.sm83.specs.Bus.{Access, Idle, Bus, Ran, runOn, isInterrupt}
-use Rattle.sm83.specs.State.{setHalt}
+use Rattle.sm83.specs.State.{pc, setHalt}
 use Rattle.sm83.specs.Execution.{Does, _>>=_, _>>_, give, wait, asked}
 use Rattle.sm83.specs.Step.{isAsleep, dispatch, instruction, awake, woken, step, Ended, ended, stepTree}
 use Rattle.sm83.proofs.Compose.{after}
@@ -129,3 +129,14 @@ module _ {W : Type 0} (b : Bus W) where
   unfolding awake runOn
   dispatches t w i p =
       chosen (do j ← asked; if isInterrupt j then dispatch else instruction) instruction t w i ∙ chosen dispatch instruction t (b .afterPeek w) p
+
+  -- waking changes the halt mode alone
+  pub woke-pc : {s t : Cpu} {m w : W} {l : List Access} → Woke b s m l t w → pc t ≡ pc s
+  woke-pc (was-awake a) = refl
+  woke-pc (woke-dmg a p d) = refl
+  woke-pc (woke-cgb a p d) = refl
+
+  pub woke-awake : {s t : Cpu} {m w : W} {l : List Access} → Woke b s m l t w → isAsleep (t .halt) ≡ false
+  woke-awake (was-awake a) = a
+  woke-awake (woke-dmg a p d) = refl
+  woke-awake (woke-cgb a p d) = refl

@@ -12,3 +12,5 @@ pub mod KeepingStep
 pub mod Runs
 pub mod Course
 pub mod NeverRefuses
+pub mod Refusals
+pub mod RefusesOnly
