@@ -12,5 +12,7 @@ pub mod KeepingStep
 pub mod Runs
 pub mod Course
 pub mod NeverRefuses
+pub mod PlainCourse
 pub mod Refusals
 pub mod RefusesOnly
+pub mod Dispatch

@@ -15,8 +15,8 @@ use Rattle.sm83.specs.declared.outcome.Refusal.{Refusal}
 use Rattle.sm83.specs.declared.outcome.Refusal.the-variants.{MemoryLength, LowBitsOfF, IllegalOpcode}
 use Rattle.sm83.specs.declared.outcome.Outcome.the-variants.{Refused}
 use Rattle.sm83.specs.Basics.{if_then_else_}
-use Rattle.sm83.specs.Bus.{Access, Read, Idle, Fetch, Bus, Ran, logged, runOn, isInterrupt, byteAt, pending, plain}
-use Rattle.sm83.specs.State.{pc, flags, setPC, setIme, setLatch, setHalt}
+use Rattle.sm83.specs.Bus.{Access, Read, Fetch, Bus, Ran, logged, runOn, isInterrupt, byteAt, pending, plain}
+use Rattle.sm83.specs.State.{pc, flags, setPC, setIme, setLatch}
 use Rattle.sm83.specs.Instruction.{Instruction, ILLEGAL, decode}
 use Rattle.sm83.specs.Execution.{execute}
 use Rattle.sm83.specs.Step.{isAsleep, enabled, fetched, instruction, Ended, ended, Admission, accepted, refusedAs, admission, admitted, stepOn}
@@ -25,7 +25,8 @@ use Rattle.sm83.specs.Run.{notRun, admittedRun, runFor}
 use Rattle.sm83.proofs.Bytes.{allBelow, at-each}
 use Rattle.sm83.proofs.Compose.{after}
 use Rattle.sm83.proofs.NeverRefuses.{isIllegal}
-use Rattle.sm83.proofs.Course.{Woke, was-awake, woke-dmg, woke-cgb, Passed, ime-clear, none-pending, endedAs, wakes, passes, woke-pc, woke-awake}
+use Rattle.sm83.proofs.PlainCourse.{idles, rousedFrom, woke-plain, passed-plain, same-ime}
+use Rattle.sm83.proofs.Course.{Woke, was-awake, woke-dmg, woke-cgb, Passed, endedAs, wakes, passes, woke-pc, woke-awake}
 
 module _ {W : Type 0} (b : Bus W) (s : Cpu) (m : W) where
   length-first : b .size m ≢ 65536 → admission b s m ≡ refusedAs MemoryLength
@@ -112,29 +113,10 @@ module _ {W : Type 0} (b : Bus W) where
 
 -- 3 on plain memory: "bytes unchanged", "the fetch and step 3's idle accesses counted".
 
--- point 3's idle accesses, of a state that goes on
-abbrev pub idlesOf : Bool → Bool → List Access
-idlesOf true true = Idle ∷ []
-idlesOf true false = Idle ∷ Idle ∷ []
-idlesOf false dmg = []
-
 module _ (s : Cpu) (m : List ℕ) where
-  woke-plain : (a d : Bool) → isAsleep (s .halt) ≡ a → s .dmg ≡ d → (T a → isInterrupt (pending m) ≡ true) → Woke plain s m (idlesOf a d) (if a then setHalt NotHalting s else s) m
-  woke-plain true true a d p = woke-dmg a (p tt) d
-  woke-plain true false a d p = woke-cgb a (p tt) d
-  woke-plain false d a e p = was-awake a
-
-  passed-plain : (t : Cpu) (i : Bool) → t .ime ≡ i → (T i → isInterrupt (pending m) ≡ false) → Passed plain t m m
-  passed-plain t true i p = none-pending i (p tt)
-  passed-plain t false i p = ime-clear i
-
-  same-ime : (a : Bool) → (if a then setHalt NotHalting s else s) .ime ≡ s .ime
-  same-ime true = refl
-  same-ime false = refl
-
-  pub refusal-3-plain : length m ≡ 65536 → flags s % 16 ≡ 0 → s .stopped ≡ false → s .hdma ≡ false → (T (isAsleep (s .halt)) → isInterrupt (pending m) ≡ true) → (T (s .ime) → isInterrupt (pending m) ≡ false) → decode (byteAt m (pc s)) ≡ ILLEGAL → stepOn plain s m ≡ record { value = record { outcome = Refused IllegalOpcode; cpu = leftBy3 s }; memory = m; accesses = idlesOf (isAsleep (s .halt)) (s .dmg) ++ Read Fetch (pc s) ∷ [] }
+  pub refusal-3-plain : length m ≡ 65536 → flags s % 16 ≡ 0 → s .stopped ≡ false → s .hdma ≡ false → (T (isAsleep (s .halt)) → isInterrupt (pending m) ≡ true) → (T (s .ime) → isInterrupt (pending m) ≡ false) → decode (byteAt m (pc s)) ≡ ILLEGAL → stepOn plain s m ≡ record { value = record { outcome = Refused IllegalOpcode; cpu = leftBy3 s }; memory = m; accesses = idles s ++ Read Fetch (pc s) ∷ [] }
   refusal-3-plain z f r h wake calm e =
-      refusal-3 plain s m z f r h (woke-plain (isAsleep (s .halt)) (s .dmg) refl refl wake) (passed-plain _ (s .ime) (same-ime (isAsleep (s .halt))) calm) e
+      refusal-3 plain s m z f r h (woke-plain s m wake) (passed-plain m (rousedFrom s) (s .ime) (same-ime s (isAsleep (s .halt))) calm) e
 
 -- "opcode D3 DB DD E3 E4 EB EC ED F4 FC FD": these bytes and no other
 abbrev pub elevenIllegal : ℕ → Bool
