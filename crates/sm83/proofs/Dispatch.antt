@@ -70,14 +70,16 @@ module _ (s : Cpu) (m : List ℕ) (whole : length m ≡ 65536) (low-bits : flags
 
   -- "PC is its vector, the outcome RunningInterrupt with its number"
   pub dispatch-some : pending (pushedHigh s m) < 5 → (stepOn plain s m .value .outcome ≡ RunningInterrupt (pending (pushedHigh s m))) × (pc (stepOn plain s m .value .cpu) ≡ vector (pending (pushedHigh s m)))
-  dispatch-some h =
-      (ap (λ (r : Ran (List ℕ) Ended). r .value .outcome) dispatch-step
-      ∙ ap (λ (t : Bool). if t then RunningInterrupt (pending (pushedHigh s m)) else Normal) (lt-ltb (pending (pushedHigh s m)) 5 h),
-      ap (λ (r : Ran (List ℕ) Ended). pc (r .value .cpu)) dispatch-step)
+  dispatch-some h = (
+    ap (λ (r : Ran (List ℕ) Ended). r .value .outcome) dispatch-step
+        ∙ ap (λ (t : Bool). if t then RunningInterrupt (pending (pushedHigh s m)) else Normal) (lt-ltb (pending (pushedHigh s m)) 5 h),
+    ap (λ (r : Ran (List ℕ) Ended). pc (r .value .cpu)) dispatch-step,
+  )
 
   -- "If none is left, PC is 0 and the outcome is Normal": and 0xFF0F is not cleared
   pub dispatch-none : pending (pushedHigh s m) ≡ none → (stepOn plain s m .value .outcome ≡ Normal) × (pc (stepOn plain s m .value .cpu) ≡ 0) × (stepOn plain s m .memory ≡ set (pushedHigh s m) (back (back (sp s))) (lowByte (pc s)))
-  dispatch-none e =
-      (ap (λ (r : Ran (List ℕ) Ended). r .value .outcome) dispatch-step ∙ ap dispatchOutcome e,
-      ap (λ (r : Ran (List ℕ) Ended). pc (r .value .cpu)) dispatch-step ∙ ap vector e,
-      ap (λ (r : Ran (List ℕ) Ended). r .memory) dispatch-step ∙ ap (λ (w : List ℕ). set w (back (back (sp s))) (lowByte (pc s))) (none-taken (pushedHigh s m) e))
+  dispatch-none e = (
+    ap (λ (r : Ran (List ℕ) Ended). r .value .outcome) dispatch-step ∙ ap dispatchOutcome e,
+    ap (λ (r : Ran (List ℕ) Ended). pc (r .value .cpu)) dispatch-step ∙ ap vector e,
+    ap (λ (r : Ran (List ℕ) Ended). r .memory) dispatch-step ∙ ap (λ (w : List ℕ). set w (back (back (sp s))) (lowByte (pc s))) (none-taken (pushedHigh s m) e),
+  )

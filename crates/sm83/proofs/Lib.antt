@@ -16,3 +16,4 @@ pub mod PlainCourse
 pub mod Refusals
 pub mod RefusesOnly
 pub mod Dispatch
+pub mod Stops
