@@ -1,8 +1,8 @@
 -- One part of a step, then the next: the second starts from the first's answer and memory, and the accesses follow on.
-use mathlib.Core.Path.{_≡_, refl, ap, sym, _∙_}
-use mathlib.Core.List.{List, [], _∷_, _++_, append-assoc}
-use Prim.Native.Nat.{ℕ, _+_}
-use lib.ListN.{length, length-append}
+use mathlib.Core.Path.{_≡_, refl, ap}
+use mathlib.Core.List.{List, _++_}
+use Prim.Native.Nat.{_+_}
+use lib.ListN.{length-append}
 use Rattle.sm83.specs.Bus.{Ask, answer, read, write, idle, peek, writeAndTake, Access, Read, Write, Idle, WriteAndTake, Stack, Bus, Ran, logged, runOn, mcycles}
 
 -- a tree, then the tree that its answer chooses

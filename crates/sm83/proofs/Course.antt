@@ -1,8 +1,7 @@
 -- The course of a step, point by point, on any kind of memory: which of the points 1 to 5 a state meets decides what is left to run.
-use mathlib.Core.Path.{_≡_, refl, ap, sym, subst, _∙_}
+use mathlib.Core.Path.{_≡_, refl, ap, _∙_}
 use mathlib.Core.Bool.{Bool, true, false}
-use mathlib.Core.List.{List, [], _∷_, _++_}
-use Prim.Native.Nat.{ℕ}
+use mathlib.Core.List.{List, [], _∷_}
 use Rattle.sm83.specs.declared.state.Cpu.{Cpu}
 use Rattle.sm83.specs.declared.state.HaltMode.the-variants.{NotHalting}
 use Rattle.sm83.specs.declared.outcome.Outcome.{Outcome}

@@ -1,5 +1,5 @@
 -- Point 4, the dispatch of an interrupt: on any memory what it asks and leaves, and on plain memory the whole step.
-use mathlib.Core.Path.{_≡_, refl, ap, sym, _∙_}
+use mathlib.Core.Path.{_≡_, refl, ap, _∙_}
 use mathlib.Core.Bool.{Bool, true, false}
 use mathlib.Core.List.{List, [], _∷_, _++_}
 use Prim.Native.Nat.{ℕ, _+_, _%_, _<_}
@@ -15,7 +15,7 @@ use Rattle.sm83.specs.Bus.{Access, Write, Idle, WriteAndTake, Stack, Bus
 use Rattle.sm83.specs.State.{pc, sp, flags, setPC, setSP, setIme, setHalt}
 use Rattle.sm83.specs.Step.{isAsleep, vector, dispatch, Ended, ended, Admission, admitted, stepOn}
 use Rattle.sm83.proofs.Compose.{after}
-use Rattle.sm83.proofs.Course.{Woke, endedAs, wakes, dispatches}
+use Rattle.sm83.proofs.Course.{endedAs, wakes, dispatches}
 use Rattle.sm83.proofs.PlainCourse.{idles, rousedFrom, woke-plain, same-ime}
 use Rattle.sm83.proofs.Refusals.{accepts}
 use Rattle.sm83.proofs.Interrupts.{none-taken}

@@ -1,14 +1,14 @@
 -- Which interrupt is pending, and what taking it leaves: "the lowest set bit wins", "Taking it clears that bit alone at 0xFF0F".
-use mathlib.Core.Path.{_≡_, refl, ap, sym, subst, _∙_}
+use mathlib.Core.Path.{_≡_, refl, ap, sym, _∙_}
 use mathlib.Core.Logic.{_≢_}
 use mathlib.Core.Bool.{Bool, true, false}
 use mathlib.Core.List.{List}
-use Prim.Native.Nat.{ℕ, zero, suc, _+_, _-_, _*_, _/_, _%_, _^_, _≤_, _<_, min}
+use Prim.Native.Nat.{ℕ, zero, suc, _≤_, _<_, min}
 use native.Mathlib.Omega.{arith}
 use native.Mathlib.Nat.{min-eq-left, min-le-left, le-trans}
 use lib.Dec.{eqb}
 use lib.Bits.{bitAnd}
-use lib.ListN.{getD, set, length, length-set}
+use lib.ListN.{set, length}
 use lib.Seq.{getD-set-same, getD-set-other}
 use borrow.Author.Tests.{eqb-true, eqb-false, lt-ltb}
 use Rattle.sm83.specs.Basics.{if_then_else_, bitAt, cleared}

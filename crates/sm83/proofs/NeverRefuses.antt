@@ -1,5 +1,5 @@
 -- No instruction but an illegal opcode ends in a refusal, whatever memory answers.
-use mathlib.Core.Path.{_≡_, refl, sym, subst}
+use mathlib.Core.Path.{sym, subst}
 use mathlib.Core.Bool.{Bool, true, false, not}
 use Prim.Native.Nat.{ℕ}
 use lib.Dec.{eqb, T}
@@ -16,7 +16,7 @@ use Rattle.sm83.specs.Instruction.{Instruction, does, goes, CB-prefix, H
 use Rattle.sm83.specs.Execution.{Does, _>>=_, _>>_, change, asked, byteAtPC, work, prefixed, jump, execute, executing}
 use Rattle.sm83.specs.Step.{Ended, ended}
 use Rattle.sm83.proofs.Compose.{bind}
-use Rattle.sm83.proofs.Parts.{left, going, work-alone, prefixed-alone}
+use Rattle.sm83.proofs.Parts.{left, work-alone, prefixed-alone}
 
 abbrev pub refuses : Outcome → Bool
 refuses Normal = false

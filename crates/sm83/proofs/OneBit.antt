@@ -1,7 +1,7 @@
 -- Single bits: of a number with one bit cleared, where that bit is 0 and every other as it was, and of AND. By halving, down to bit 0.
-use mathlib.Core.Path.{_≡_, refl, ap, sym, subst, _∙_}
+use mathlib.Core.Path.{_≡_, refl, ap, sym, _∙_}
 use mathlib.Core.Logic.{_≢_}
-use Prim.Native.Nat.{ℕ, zero, suc, _+_, _-_, _*_, _/_, _%_, _^_, _≤_, _<_, min}
+use Prim.Native.Nat.{ℕ, zero, suc, _*_, _/_, _%_, _^_, _≤_, min}
 use native.Mathlib.Nat.{pow-suc, div-div-eq-div-mul, div-mul-le-self, mul-le-mul-right, le-trans, mod-le, mul-assoc, pow-succ', min-le-left}
 use native.Mathlib.Omega.{arith}
 use lib.Bits.{bitAnd, and-step, and-shr}

@@ -1,14 +1,14 @@
 -- A part of an instruction is the part alone, then what comes next: so a law of its tree alone carries over.
-use mathlib.Core.Path.{_≡_, refl, ap, sym, _∙_}
-use Prim.Native.Nat.{ℕ, _+_, _%_}
+use mathlib.Core.Path.{_≡_, refl, ap, _∙_}
+use Prim.Native.Nat.{ℕ}
 use Rattle.sm83.specs.declared.state.Cpu.{Cpu}
 use Rattle.sm83.specs.Basics.{cleared, raised, next}
 use Rattle.sm83.specs.Bus.{Ask, answer, read, Operand}
 use Rattle.sm83.specs.State.{pc, flags, setPC, setF}
-use Rattle.sm83.specs.Arithmetic.{Result, shiftOp, increment, decrement}
+use Rattle.sm83.specs.Arithmetic.{shiftOp, increment, decrement}
 use Rattle.sm83.specs.Instruction.{Reg8, rB, rC, rD, rE, rH, rL, [HL], rA, Prefixed, SHIFT-r8, BIT-u3-r8, RES-u3-r8, SET-u3-r8}
 use Rattle.sm83.specs.Instruction.{Work, NOP, DI, LD-r8-r8, LD-r8-n8, LD-r16-n16, LD-[r16]-A, LD-A-[r16], LD-[n16]-A, LD-A-[n16], LDH-[n8]-A, LDH-A-[n8], LDH-[C]-A, LDH-A-[C], LD-[n16]-SP, LD-SP-HL, LD-HL-SP+e8, ADD-SP-e8, ALU-A-r8, ALU-A-n8, ACC, INC-r8, DEC-r8, INC-r16, DEC-r16, ADD-HL-r16, PUSH-r16, POP-r16}
-use Rattle.sm83.specs.Execution.{Does, get8, put8, work, prefixed, executing}
+use Rattle.sm83.specs.Execution.{get8, put8, work, prefixed, executing}
 use Rattle.sm83.proofs.Compose.{bind}
 
 -- what a part leaves: its value and the state

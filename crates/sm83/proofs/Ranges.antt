@@ -3,17 +3,14 @@
 use mathlib.Core.Path.{_≡_, refl, sym, subst, _∙_}
 use mathlib.Core.Bool.{Bool, true, false}
 use mathlib.Core.List.{List}
-use Prim.Native.Nat.{ℕ, zero, suc, _-_, _≤_, _<_}
-use native.Mathlib.Omega.{arith}
+use Prim.Native.Nat.{ℕ, _≤_, _<_}
 use lib.Dec.{eqb, ltb}
-use lib.ListN.{getD, set, length, length-set}
+use lib.ListN.{set, length, length-set}
 use lib.Seq.{getD-set-same, getD-set-other, set-out}
 use borrow.Author.Tests.{ltb-true, ltb-false, eqb-true, eqb-false}
 use Rattle.sm83.specs.declared.state.Cpu.{Cpu}
-use Rattle.sm83.specs.declared.outcome.LastOutcome.{LastOutcome}
-use Rattle.sm83.specs.declared.outcome.LastOutcome.the-variants.{NothingRun, Last}
 use Rattle.sm83.specs.Basics.{if_then_else_, cleared}
-use Rattle.sm83.specs.Bus.{Kind, Stack, Ask, answer, read, write, idle, peek, writeAndTake, Bus, Ran, runOn, byteAt, isInterrupt, pending, taken, plain}
+use Rattle.sm83.specs.Bus.{Kind, Stack, Ask, answer, read, write, idle, peek, writeAndTake, Bus, runOn, byteAt, isInterrupt, pending, taken, plain}
 use Rattle.sm83.specs.Step.{Ended, ended, stepTree, Admission, accepted, refusedAs, admission, admitted, stepOn}
 use Rattle.sm83.specs.Run.{runFor}
 use Rattle.sm83.proofs.Ranged.{Ranged, cleared-byte}

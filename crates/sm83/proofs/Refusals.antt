@@ -22,7 +22,7 @@ use Rattle.sm83.specs.Execution.{execute}
 use Rattle.sm83.specs.Step.{isAsleep, enabled, fetched, instruction, Ended, ended, Admission, accepted, refusedAs, admission, admitted, stepOn}
 use Rattle.sm83.specs.Numbers.{numberOf}
 use Rattle.sm83.specs.Run.{notRun, admittedRun, runFor}
-use Rattle.sm83.proofs.Bytes.{allBelow, at-each}
+use Rattle.sm83.proofs.Bytes.{at-each}
 use Rattle.sm83.proofs.Compose.{after}
 use Rattle.sm83.proofs.NeverRefuses.{isIllegal}
 use Rattle.sm83.proofs.PlainCourse.{idles, rousedFrom, woke-plain, passed-plain, same-ime}

@@ -17,7 +17,7 @@ use Rattle.sm83.specs.Bus.{Access, Fetch, Stack, Bus, Ran, runOn, isInte
 use Rattle.sm83.specs.State.{pc, sp, flags}
 use Rattle.sm83.specs.Instruction.{Instruction, does, goes, CB-prefix, HALT, STOP, EI, LD-B-B, ILLEGAL, decode}
 use Rattle.sm83.specs.Execution.{execute}
-use Rattle.sm83.specs.Step.{enabled, fetched, instruction, Ended, ended, Admission, accepted, refusedAs, admitted, stepOn}
+use Rattle.sm83.specs.Step.{enabled, fetched, instruction, Ended, ended, accepted, refusedAs, admitted, stepOn}
 use Rattle.sm83.specs.Numbers.{numberOf}
 use Rattle.sm83.proofs.Course.{Woke, Passed, Course, point1, point2, point3, point4, points5to7, course, woke-pc}
 use Rattle.sm83.proofs.NeverRefuses.{refuses, never-run, isIllegal, execute-never}

@@ -15,7 +15,7 @@ use Rattle.sm83.specs.declared.outcome.LastOutcome.the-variants.{Nothing
 use Rattle.sm83.specs.Basics.{if_then_else_}
 use Rattle.sm83.specs.Bus.{Bus, Ran, mcycles}
 use Rattle.sm83.specs.Step.{Ended, Admission, accepted, refusedAs, admission, stepOn}
-use Rattle.sm83.specs.Run.{stopsRun, RunAnswer, thenRest, repeated, notRun, admittedRun, runFor}
+use Rattle.sm83.specs.Run.{stopsRun, RunAnswer, thenRest, repeated, admittedRun, runFor}
 
 -- a state and a memory
 pub record Point (W : Type 0) : Type 0 where

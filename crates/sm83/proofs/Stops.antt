@@ -1,7 +1,7 @@
 -- Where a run stops, from its being repeated steps: after the first outcome that stops it, or after its whole budget. A step that meets a refusal counts.
 use mathlib.Core.Path.{_≡_, refl, ap, sym, subst, _∙_}
 use mathlib.Core.Bool.{Bool, true, false, not}
-use Prim.Native.Nat.{ℕ, zero, suc, _+_, _≤_, _<_}
+use Prim.Native.Nat.{ℕ, zero, suc, _≤_, _<_}
 use native.Mathlib.Omega.{arith}
 use lib.Dec.{T, T-not}
 use Rattle.sm83.specs.declared.state.Cpu.{Cpu}
