@@ -40,3 +40,12 @@ woke-plain s m p = by-sleep (isAsleep (s .halt)) (s .dmg) refl refl p
 pub passed-plain : (m : List ℕ) (t : Cpu) (i : Bool) → t .ime ≡ i → (T i → isInterrupt (pending m) ≡ false) → Passed plain t m m
 passed-plain m t true i p = none-pending i (p tt)
 passed-plain m t false i p = ime-clear i
+
+pub woke-same : {s t : Cpu} {m w : List ℕ} {l : List Access} → Woke plain s m l t w → w ≡ m
+woke-same (was-awake a) = refl
+woke-same (woke-dmg a p d) = refl
+woke-same (woke-cgb a p d) = refl
+
+pub passed-same : {t : Cpu} {w v : List ℕ} → Passed plain t w v → v ≡ w
+passed-same (ime-clear i) = refl
+passed-same (none-pending i p) = refl

@@ -61,7 +61,7 @@ module _ {W : Type 0} (b : Bus W) (sized : Sized b) where
 
   pub run-size : (budget : ℕ) (s : Cpu) (m : W) → b .size (runFor b budget s m .memory) ≡ b .size m
   run-size budget s m =
-      run-keeps b (λ t w. b .size w ≡ b .size m) (λ o. Unit {0}) (λ t w e. (step-size t w ∙ e, tt)) budget s m (λ r. tt) refl .0
+      run-keeps b (λ t w. b .size w ≡ b .size m) (λ o. Unit {0}) (λ t w e. (step-size t w ∙ e, tt)) budget s m (λ r e. tt) refl .0
 
 -- The ranges.
 
@@ -100,7 +100,7 @@ module _ {W : Type 0} (b : Bus W) (Good : W → Type 0) (law : Lawful b Good) wh
   step-ranges s m h = admitted-ranges (admission b s m) s m h
 
   pub run-ranges : (budget : ℕ) (s : Cpu) (m : W) → InRange Good s m → InRange Good (runFor b budget s m .cpu) (runFor b budget s m .memory) × LastSays OutcomeRanged (runFor b budget s m .last)
-  run-ranges budget s m h = run-keeps b (InRange Good) OutcomeRanged step-ranges budget s m (λ r. tt) h
+  run-ranges budget s m h = run-keeps b (InRange Good) OutcomeRanged step-ranges budget s m (λ r e. tt) h
 
 -- Plain memory: "never changes the length of memory" for every state and every list; every byte stays a byte.
 

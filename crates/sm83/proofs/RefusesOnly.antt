@@ -5,6 +5,7 @@ use mathlib.Core.Logic.{_≢_}
 use mathlib.Core.Bool.{Bool, true, false, not}
 use mathlib.Core.List.{List}
 use Prim.Native.Nat.{ℕ, _%_}
+use native.Mathlib.Omega.{arith}
 use lib.Dec.{eqb, T}
 use borrow.Author.Tests.{eqb-true, eqb-false}
 use Rattle.sm83.specs.declared.state.Cpu.{Cpu}
@@ -13,15 +14,20 @@ use Rattle.sm83.specs.declared.outcome.Refusal.the-variants.{MemoryLengt
 use Rattle.sm83.specs.declared.outcome.Outcome.{Outcome}
 use Rattle.sm83.specs.declared.outcome.Outcome.the-variants.{Normal, InfiniteLoop, Halting, RunningHDMA, Stopped, RunningInterrupt, Breakpoint, Refused}
 use Rattle.sm83.specs.Basics.{if_then_else_, highByte, back}
-use Rattle.sm83.specs.Bus.{Access, Fetch, Stack, Bus, Ran, runOn, isInterrupt}
+use Rattle.sm83.specs.Bus.{Access, Fetch, Stack, Bus, Ran, runOn, isInterrupt, byteAt, plain}
 use Rattle.sm83.specs.State.{pc, sp, flags}
 use Rattle.sm83.specs.Instruction.{Instruction, does, goes, CB-prefix, HALT, STOP, EI, LD-B-B, ILLEGAL, decode}
 use Rattle.sm83.specs.Execution.{execute}
-use Rattle.sm83.specs.Step.{enabled, fetched, instruction, Ended, ended, accepted, refusedAs, admitted, stepOn}
+use Rattle.sm83.specs.Step.{enabled, fetched, instruction, Ended, ended, Admission, accepted, refusedAs, admitted, stepOn}
 use Rattle.sm83.specs.Numbers.{numberOf}
+use Rattle.sm83.specs.Run.{runFor}
+use Rattle.sm83.specs.declared.outcome.LastOutcome.the-variants.{Last}
 use Rattle.sm83.proofs.Course.{Woke, Passed, Course, point1, point2, point3, point4, points5to7, course, woke-pc}
 use Rattle.sm83.proofs.NeverRefuses.{refuses, never-run, isIllegal, execute-never}
-use Rattle.sm83.proofs.Refusals.{pc-enabled}
+use Rattle.sm83.proofs.Refusals.{pc-enabled, accepts}
+use Rattle.sm83.proofs.PlainCourse.{woke-same, passed-same}
+use Rattle.sm83.proofs.Runs.{LastSays, run-keeps}
+use Rattle.sm83.proofs.Ranges.{Lawful, Sized, InRange, step-ranges, step-size}
 
 -- Why a step may answer a refusal, by its number.
 pub data Why {W : Type 0} (b : Bus W) (s : Cpu) (m : W) : ℕ → Type 0 where
@@ -94,3 +100,39 @@ module _ {W : Type 0} (b : Bus W) where
   pub refuses-only : (s : Cpu) (m : W) (r : Refusal) → stepOn b s m .value .outcome ≡ Refused r → Why b s m (numberOf r)
   unfolding stepOn
   refuses-only s m r e = by-length s m r (eqb (b .size m) 65536) refl e
+
+-- On plain memory 3 is answered only if the byte at PC is illegal.
+byte-illegal : (s : Cpu) (m : List ℕ) (n : ℕ) → n ≡ 3 → Why plain s m n → decode (byteAt m (pc s)) ≡ ILLEGAL
+byte-illegal s m n e (wrong-length z) = absurd (omega arith)
+byte-illegal s m n e (low-bit-set z f) = absurd (omega arith)
+byte-illegal s m n e (illegal-opcode z f p q woke passed i) = subst (λ (w : List ℕ). decode (byteAt w (pc s)) ≡ ILLEGAL) (passed-same passed ∙ woke-same woke) i
+
+pub refuses-only-plain : (s : Cpu) (m : List ℕ) (r : Refusal) → stepOn plain s m .value .outcome ≡ Refused r → numberOf r ≡ 3 → decode (byteAt m (pc s)) ≡ ILLEGAL
+refuses-only-plain s m r e n = byte-illegal s m (numberOf r) n (refuses-only plain s m r e)
+
+abbrev isAccepted : Admission → Bool
+isAccepted accepted = true
+isAccepted (refusedAs r) = false
+
+never-refused : (r : Refusal) → accepted ≡ refusedAs r → ⊥
+never-refused r e = subst (λ (v : Admission). T (isAccepted v)) e tt
+
+-- A run of an accepted state in range, on a lawful memory, is refused with number 3 alone: no step of it meets 1 or 2.
+module _ {W : Type 0} (b : Bus W) (Good : W → Type 0) (law : Lawful b Good) (sized : Sized b) where
+  abbrev Fits : Cpu → W → Type 0
+  Fits s m = InRange Good s m × (b .size m ≡ 65536)
+
+  abbrev OnlyThree : Outcome → Type 0
+  OnlyThree o = (r : Refusal) → o ≡ Refused r → numberOf r ≡ 3
+
+  three : (s : Cpu) (m : W) (n : ℕ) → Fits s m → Why b s m n → n ≡ 3
+  three s m n h (wrong-length z) = absurd (z (h .1))
+  three s m n h (low-bit-set z f) = absurd (f (h .0 .0 .low-bits))
+  three s m n h (illegal-opcode z f p q woke passed e) = refl
+
+  pub run-refuses-only : (budget : ℕ) (s : Cpu) (m : W) → InRange Good s m → b .size m ≡ 65536 → (r : Refusal) → runFor b budget s m .last ≡ Last (Refused r) → numberOf r ≡ 3
+  run-refuses-only budget s m h z r e =
+      subst (LastSays OnlyThree) e
+      (run-keeps b Fits OnlyThree (λ t w g. ((step-ranges b Good law t w (g .0) .0, step-size b sized t w ∙ g .1), λ x p. three t w (numberOf x) g (refuses-only b t w x p))) budget s m
+      (λ x p. absurd (never-refused x (sym (accepts b s m z (h .0 .low-bits)) ∙ p))) (h, z) .1)
+      r refl

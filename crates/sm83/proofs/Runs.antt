@@ -126,11 +126,11 @@ module _ {W : Type 0} (b : Bus W) (I : Cpu → W → Type 0) (O : Outcome → Ty
       either-way b (stopsRun (r .value .outcome)) _ _ Ends (λ t. steps s m h)
       (λ t. repeated-keeps (Last (r .value .outcome)) n (r .value .cpu) (r .memory) (steps s m h .1) (steps s m h .0))
 
-  admitted-keeps : (v : Admission) (budget : ℕ) (s : Cpu) (m : W) → ((r : Refusal) → O (Refused r)) → I s m → Ends (admittedRun v b budget s m)
+  admitted-keeps : (v : Admission) (budget : ℕ) (s : Cpu) (m : W) → ((r : Refusal) → v ≡ refusedAs r → O (Refused r)) → I s m → Ends (admittedRun v b budget s m)
   unfolding Ends
   admitted-keeps accepted budget s m q h = repeated-keeps NothingRun budget s m tt h
-  admitted-keeps (refusedAs r) budget s m q h = (h, q r)
+  admitted-keeps (refusedAs r) budget s m q h = (h, q r refl)
 
-  pub run-keeps : (budget : ℕ) (s : Cpu) (m : W) → ((r : Refusal) → O (Refused r)) → I s m → I (runFor b budget s m .cpu) (runFor b budget s m .memory) × LastSays O (runFor b budget s m .last)
+  pub run-keeps : (budget : ℕ) (s : Cpu) (m : W) → ((r : Refusal) → admission b s m ≡ refusedAs r → O (Refused r)) → I s m → I (runFor b budget s m .cpu) (runFor b budget s m .memory) × LastSays O (runFor b budget s m .last)
   unfolding runFor Ends
   run-keeps budget s m q h = admitted-keeps (admission b s m) budget s m q h

@@ -10,9 +10,10 @@ use Rattle.sm83.specs.declared.outcome.Outcome.{Outcome}
 use Rattle.sm83.specs.declared.outcome.Outcome.the-variants.{Refused}
 use Rattle.sm83.specs.declared.outcome.LastOutcome.{LastOutcome}
 use Rattle.sm83.specs.declared.outcome.LastOutcome.the-variants.{NothingRun, Last}
-use Rattle.sm83.specs.Bus.{Bus}
-use Rattle.sm83.specs.Step.{Admission, accepted, refusedAs, admission}
-use Rattle.sm83.specs.Run.{stopsRun, repeated, admittedRun, runFor}
+use Rattle.sm83.specs.Basics.{if_then_else_}
+use Rattle.sm83.specs.Bus.{Bus, mcycles}
+use Rattle.sm83.specs.Step.{Admission, accepted, refusedAs, admission, stepOn}
+use Rattle.sm83.specs.Run.{stopsRun, RunAnswer, repeated, admittedRun, runFor}
 use Rattle.sm83.proofs.Runs.{stepAfter, spent, lastOf, stopsLast, Repeats, run-repeats}
 
 abbrev hasRun : LastOutcome → Bool
@@ -70,6 +71,14 @@ module _ {W : Type 0} (b : Bus W) (s : Cpu) (m : W) where
   pub budget-zero : admission b s m ≡ accepted → runFor b 0 s m ≡ record { last = NothingRun; cpu = s; memory = m; steps = 0; cycles = 0 }
   unfolding runFor repeated
   budget-zero ok = ap (λ (v : Admission). admittedRun v b 0 s m) ok
+
+  chosen : (x y : RunAnswer W) {t : Bool} → t ≡ true → (if t then x else y) ≡ x
+  chosen x y e = ap (λ (z : Bool). if z then x else y) e
+
+  -- the first step stops the run: the answer whole
+  pub stops-at-once : (n : ℕ) → admission b s m ≡ accepted → stopsRun (stepOn b s m .value .outcome) ≡ true → runFor b (suc n) s m ≡ record { last = Last (stepOn b s m .value .outcome); cpu = stepOn b s m .value .cpu; memory = stepOn b s m .memory; steps = 1; cycles = mcycles (stepOn b s m .accesses) }
+  unfolding runFor repeated
+  stops-at-once n ok e = ap (λ (v : Admission). admittedRun v b (suc n) s m) ok ∙ chosen _ _ e
 
   by-admission : (budget : ℕ) (v : Admission) → admission b s m ≡ v → runFor b budget s m .last ≡ NothingRun → (admission b s m ≡ accepted) × (budget ≡ 0)
   unfolding runFor
