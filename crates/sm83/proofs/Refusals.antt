@@ -41,25 +41,24 @@ module _ {W : Type 0} (b : Bus W) (s : Cpu) (m : W) where
   pub accepts : b .size m ≡ 65536 → flags s % 16 ≡ 0 → admission b s m ≡ accepted
   accepts h f = then-flags true h (eq-eqb (flags s % 16) 0 f)
 
--- Step and run refuse with this number, and leave "state, bytes and marks as they came, 0 M-cycles"; the run "also with budget 0".
-pub record RefusedWhole {W : Type 0} (b : Bus W) (s : Cpu) (m : W) (n : ℕ) : Type 0 where
-  pub why : Refusal
+-- Step and run refuse for this reason, with this number, and leave "state, bytes and marks as they came, 0 M-cycles"; the run "also with budget 0".
+pub record RefusedWhole {W : Type 0} (b : Bus W) (s : Cpu) (m : W) (why : Refusal) (n : ℕ) : Type 0 where
   pub numbered : numberOf why ≡ n
   pub step-leaves : stepOn b s m ≡ record { value = record { outcome = Refused why; cpu = s }; memory = m; accesses = [] }
   pub run-leaves : (budget : ℕ) → runFor b budget s m ≡ notRun why s m
 
 module _ {W : Type 0} (b : Bus W) (s : Cpu) (m : W) where
-  refused-whole : (r : Refusal) → admission b s m ≡ refusedAs r → RefusedWhole b s m (numberOf r)
+  refused-whole : (r : Refusal) → admission b s m ≡ refusedAs r → RefusedWhole b s m r (numberOf r)
   unfolding stepOn runFor
   refused-whole r e =
-      record { why = r; numbered = refl; step-leaves = ap (λ (v : Admission). admitted v b s m) e; run-leaves = λ budget. ap (λ (v : Admission). admittedRun v b budget s m) e }
+      record { numbered = refl; step-leaves = ap (λ (v : Admission). admitted v b s m) e; run-leaves = λ budget. ap (λ (v : Admission). admittedRun v b budget s m) e }
 
   -- 1: "memory is not 65,536 bytes long"
-  pub refusal-1 : b .size m ≢ 65536 → RefusedWhole b s m 1
+  pub refusal-1 : b .size m ≢ 65536 → RefusedWhole b s m MemoryLength 1
   refusal-1 h = refused-whole MemoryLength (length-first b s m h)
 
   -- 2: "a low bit of F is set"; 1 is tested first
-  pub refusal-2 : b .size m ≡ 65536 → flags s % 16 ≢ 0 → RefusedWhole b s m 2
+  pub refusal-2 : b .size m ≡ 65536 → flags s % 16 ≢ 0 → RefusedWhole b s m LowBitsOfF 2
   refusal-2 h f = refused-whole LowBitsOfF (then-flags b s m false h (ne-eqb (flags s % 16) 0 f))
 
 -- 3 leaves "PC as before the fetch; steps 3, 5 and the end of HaltBug keep their effect": awake, IME set if the latch was, the latch clear.
@@ -71,12 +70,10 @@ leftBy3 s =
 back-at-start : (r : CpuRegisters) (i l : Bool) (h : HaltMode) (st hd d : Bool) → isAsleep h ≡ false → setPC (r .pc .0) (fetched (enabled (record { registers = r; ime = i; latch = l; halt = h; stopped = st; hdma = hd; dmg = d }))) ≡ leftBy3 (record { registers = r; ime = i; latch = l; halt = h; stopped = st; hdma = hd; dmg = d })
 unfolding fetched
 back-at-start r i true NotHalting st hd d a = refl
-back-at-start r i true HaltRunInterrupt st hd d a = absurd (subst T a tt)
-back-at-start r i true HaltNoRunInterrupt st hd d a = absurd (subst T a tt)
-back-at-start r i true HaltBug st hd d a = refl
 back-at-start r i false NotHalting st hd d a = refl
-back-at-start r i false HaltRunInterrupt st hd d a = absurd (subst T a tt)
-back-at-start r i false HaltNoRunInterrupt st hd d a = absurd (subst T a tt)
+back-at-start r i l HaltRunInterrupt st hd d a = absurd (subst T a tt)
+back-at-start r i l HaltNoRunInterrupt st hd d a = absurd (subst T a tt)
+back-at-start r i true HaltBug st hd d a = refl
 back-at-start r i false HaltBug st hd d a = refl
 
 pub pc-enabled : (t : Cpu) (x : Bool) → pc (if x then setIme true (setLatch false t) else t) ≡ pc t
