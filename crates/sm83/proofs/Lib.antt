@@ -33,6 +33,7 @@ pub mod Parts
 -- repeated steps
 pub mod Runs
 pub mod Stops
+pub mod Stopping
 -- every register in its range, every byte a byte, no length changed
 pub mod Ranged
 pub mod Keeping
