@@ -1,7 +1,7 @@
--- The definition's answer to each step of the sample is the Rust's: computed, a page at a time.
-use mathlib.Core.Path.{_≡_, refl}
-use mathlib.Core.Bool.{true}
-use Rattle.vectors.specs.Vector.{allAgree, comparing}
+-- The definition answers each step of the sample as the Rust does, on plain memory: computed, a page at a time.
+use mathlib.Core.Path.{refl}
+use Rattle.vectors.specs.Vector.{comparing}
+use Rattle.vectors.specs.OnPlain.{EachAsTheRust}
 use Rattle.vectors.specs.Opcodes00.{opcodes00}
 use Rattle.vectors.specs.Opcodes40.{opcodes40}
 use Rattle.vectors.specs.Opcodes80.{opcodes80}
@@ -12,43 +12,44 @@ use Rattle.vectors.specs.Prefixed80.{prefixed80}
 use Rattle.vectors.specs.PrefixedC0.{prefixedC0}
 use Rattle.vectors.specs.BeforeFetch.{before-fetch}
 use Rattle.vectors.specs.AfterFetch.{after-fetch}
+use Rattle.vectors.proofs.OnPlain.{each-as-the-rust}
 
-pub opcodes00-agree : allAgree opcodes00 ≡ true
+pub opcodes00-as-the-rust : EachAsTheRust opcodes00
 unfolding comparing opcodes00
-opcodes00-agree = refl
+opcodes00-as-the-rust = each-as-the-rust opcodes00 refl
 
-pub opcodes40-agree : allAgree opcodes40 ≡ true
+pub opcodes40-as-the-rust : EachAsTheRust opcodes40
 unfolding comparing opcodes40
-opcodes40-agree = refl
+opcodes40-as-the-rust = each-as-the-rust opcodes40 refl
 
-pub opcodes80-agree : allAgree opcodes80 ≡ true
+pub opcodes80-as-the-rust : EachAsTheRust opcodes80
 unfolding comparing opcodes80
-opcodes80-agree = refl
+opcodes80-as-the-rust = each-as-the-rust opcodes80 refl
 
-pub opcodesC0-agree : allAgree opcodesC0 ≡ true
+pub opcodesC0-as-the-rust : EachAsTheRust opcodesC0
 unfolding comparing opcodesC0
-opcodesC0-agree = refl
+opcodesC0-as-the-rust = each-as-the-rust opcodesC0 refl
 
-pub prefixed00-agree : allAgree prefixed00 ≡ true
+pub prefixed00-as-the-rust : EachAsTheRust prefixed00
 unfolding comparing prefixed00
-prefixed00-agree = refl
+prefixed00-as-the-rust = each-as-the-rust prefixed00 refl
 
-pub prefixed40-agree : allAgree prefixed40 ≡ true
+pub prefixed40-as-the-rust : EachAsTheRust prefixed40
 unfolding comparing prefixed40
-prefixed40-agree = refl
+prefixed40-as-the-rust = each-as-the-rust prefixed40 refl
 
-pub prefixed80-agree : allAgree prefixed80 ≡ true
+pub prefixed80-as-the-rust : EachAsTheRust prefixed80
 unfolding comparing prefixed80
-prefixed80-agree = refl
+prefixed80-as-the-rust = each-as-the-rust prefixed80 refl
 
-pub prefixedC0-agree : allAgree prefixedC0 ≡ true
+pub prefixedC0-as-the-rust : EachAsTheRust prefixedC0
 unfolding comparing prefixedC0
-prefixedC0-agree = refl
+prefixedC0-as-the-rust = each-as-the-rust prefixedC0 refl
 
-pub before-fetch-agree : allAgree before-fetch ≡ true
+pub before-fetch-as-the-rust : EachAsTheRust before-fetch
 unfolding comparing before-fetch
-before-fetch-agree = refl
+before-fetch-as-the-rust = each-as-the-rust before-fetch refl
 
-pub after-fetch-agree : allAgree after-fetch ≡ true
+pub after-fetch-as-the-rust : EachAsTheRust after-fetch
 unfolding comparing after-fetch
-after-fetch-agree = refl
+after-fetch-as-the-rust = each-as-the-rust after-fetch refl

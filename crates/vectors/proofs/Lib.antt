@@ -1,4 +1,5 @@
--- What is shown of the definition with the Rust's answers.
+-- The sparse memory is plain memory; what an agreeing comparison comes to on plain memory; the comparison, computed.
+pub mod Plain
+pub mod OnPlain
 pub mod Answers
 pub mod Tables
-pub mod Plain

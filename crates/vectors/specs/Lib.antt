@@ -1,6 +1,7 @@
 -- Plain memory by its bytes that matter, what a vector is and when the definition agrees with it; then the Rust's answers.
 pub mod Sparse
 pub mod Vector
+pub mod OnPlain
 pub mod Table
 pub mod Opcodes00
 pub mod Opcodes40

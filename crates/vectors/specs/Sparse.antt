@@ -1,7 +1,7 @@
 -- Plain memory seen through the bytes that matter: a list of bytes with their addresses, the latest first. A byte that is not listed is 0.
 -- That it is plain memory is shown in proofs/Plain.antt.
 use mathlib.Core.List.{List, [], _∷_}
-use Prim.Native.Nat.{ℕ}
+use Prim.Native.Nat.{ℕ, zero, suc}
 use lib.Dec.{eqb, ltb}
 use lib.Bits.{bitAnd}
 use Rattle.sm83.specs.Basics.{if_then_else_, cleared}
@@ -43,3 +43,11 @@ sparse =
       afterPeek = λ m. m;
       afterTake = withoutWaiting;
     }
+
+-- The same as plain memory: n bytes from k on, and all 65,536.
+unfoldable pub spreadFrom : Sparse → ℕ → ℕ → List ℕ
+spreadFrom m k zero = []
+spreadFrom m k (suc n) = look m k ∷ spreadFrom m (suc k) n
+
+unfoldable pub spread : Sparse → List ℕ
+spread m = spreadFrom m 0 65536

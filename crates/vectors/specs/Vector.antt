@@ -102,15 +102,6 @@ unfoldable pub accessesIn : ℕ → ℕ → List ℕ → List ℕ
 accessesIn zero n l = l
 accessesIn (suc k) n l = if ltb n 0x10000000 then l else accessesIn k (n / 0x10000000) (n / 0x1000000 % 16 ∷ n / 256 % 65536 ∷ n % 256 ∷ l)
 
--- Every address at which either memory has anything: at all others both hold 0.
-unfoldable pub places : Sparse → List ℕ
-places [] = []
-places (p ∷ m) = p .place ∷ places m
-
-unfoldable pub bytesAt : Sparse → List ℕ → List ℕ
-bytesAt m [] = []
-bytesAt m (a ∷ l) = shown m a ∷ bytesAt m l
-
 -- the definition's answer: outcome, M-cycles, state, breakpoint, accesses
 unfoldable pub found : {W : Type 0} → Ran W Ended → List ℕ
 found r = outcomeNumber (r .value .outcome) ∷ mcycles (r .accesses) ∷ ofCpu (r .value .cpu) ++ shownBy (r .value .outcome) ++ ofAccesses (r .accesses)
@@ -127,14 +118,31 @@ same [] (y ∷ l) = false
 same (x ∷ k) [] = false
 same (x ∷ k) (y ∷ l) = eqb x y && same k l
 
+-- the addresses that a memory lists
+unfoldable pub places : Sparse → List ℕ
+places [] = []
+places (p ∷ m) = p .place ∷ places m
+
+unfoldable pub sameAt : Sparse → Sparse → List ℕ → Bool
+sameAt m n [] = true
+sameAt m n (a ∷ l) = eqb (shown m a) (shown n a) && sameAt m n l
+
+-- at every address that either of them lists: at all others both hold 0
 unfoldable pub sameBytes : Sparse → Sparse → Bool
-sameBytes m n = let all = places m ++ places n in same (bytesAt m all) (bytesAt n all)
+sameBytes m n = sameAt m n (places m) && sameAt m n (places n)
+
+-- memory before, and the Rust's after
+abbrev pub memoryBefore : Vector → Sparse
+memoryBefore v = memoryIn (v .bytes)
+
+abbrev pub memoryAfter : Vector → Sparse
+memoryAfter v = memoryIn (v .changed) ++ memoryIn (v .bytes)
+
+abbrev pub stepOf : Vector → Ran Sparse Ended
+stepOf v = stepOn sparse (cpuIn (v .before)) (memoryBefore v)
 
 unfoldable pub agrees : Vector → Bool
-agrees v =
-    let m : Sparse = memoryIn (v .bytes) in
-    let r : Ran Sparse Ended = stepOn sparse (cpuIn (v .before)) m in
-    same (found r) (wanted v) && sameBytes (r .memory) (memoryIn (v .changed) ++ m)
+agrees v = let r : Ran Sparse Ended = stepOf v in same (found r) (wanted v) && sameBytes (r .memory) (memoryAfter v)
 
 unfoldable pub allAgree : List Vector → Bool
 allAgree [] = true
@@ -142,5 +150,5 @@ allAgree (v ∷ l) = agrees v && allAgree l
 
 -- a proof that says `unfolding comparing` opens this page and the definition
 unfoldable pub comparing : ℕ
-unfolding allAgree agrees sameBytes same wanted found bytesAt places accessesIn ofAccesses shownBy ofCpu ofRegisters haltNumber placedIn look withoutWaiting stepOn stepping runOn decode decodeCB daa
+unfolding allAgree agrees sameBytes sameAt same wanted found places accessesIn ofAccesses shownBy ofCpu ofRegisters haltNumber placedIn look withoutWaiting stepOn stepping runOn decode decodeCB daa
 comparing = 0
