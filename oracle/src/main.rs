@@ -81,35 +81,43 @@ fn named(r: &cpu::CpuRegisters) -> Registers {
     Registers { a: r.a, f: r.f, b: r.b, c: r.c, d: r.d, e: r.e, h: r.h, l: r.l, sp: r.sp, pc: r.pc }
 }
 
-/// What the Rust answers to one step.
+/// What the Rust answers to one step, or to the last step of a run.
 pub struct Answer {
-    /// the document's number of the outcome
+    /// the document's number of the outcome; 255 if nothing was run
     pub outcome: u8,
     pub state: State,
     pub bus: bus::Bus,
+    pub steps: u16,
 }
 
 pub fn step(state: &State, bytes: &[u8]) -> Answer {
+    run(state, bytes, 1)
+}
+
+/// The Rust's steps, one after the other, under the document's rule for a run: "it stops early only after InfiniteLoop, Breakpoint, Stopped or a refusal".
+pub fn run(state: &State, bytes: &[u8], budget: u16) -> Answer {
     let mut cpu = cpu::Cpu::new(GameBoyConfig { is_dmg: state.dmg });
     cpu.put(state);
     let mut bus = bus::Bus::new(bytes.to_vec(), state.stopped, state.hdma);
-    let answered = cpu.next_instruction(&mut bus);
-    let after = cpu.get(bus.stopped, bus.hdma);
-    let outcome = match answered {
-        Ok(cpu::CpuState::Normal) => 0,
-        Ok(cpu::CpuState::InfiniteLoop) => 1,
-        Ok(cpu::CpuState::Halting) => 2,
-        Ok(cpu::CpuState::RunningHDMA) => 3,
-        Ok(cpu::CpuState::Stopped) => 4,
-        Ok(cpu::CpuState::Breakpoint(shown)) => {
-            // so the page needs no place of its own for them
-            assert_eq!(named(&shown), after.registers);
-            5
-        }
-        Ok(cpu::CpuState::RunningInterrupt(i)) => 8 + i as u8,
-        Err(cpu::RunError::IllegalInstruction) => 16 + 3,
-    };
-    Answer { outcome, state: after, bus }
+    let (mut outcome, mut steps) = (255, 0);
+    while steps < budget && ![1, 4, 5, 19].contains(&outcome) {
+        outcome = match cpu.next_instruction(&mut bus) {
+            Ok(cpu::CpuState::Normal) => 0,
+            Ok(cpu::CpuState::InfiniteLoop) => 1,
+            Ok(cpu::CpuState::Halting) => 2,
+            Ok(cpu::CpuState::RunningHDMA) => 3,
+            Ok(cpu::CpuState::Stopped) => 4,
+            Ok(cpu::CpuState::Breakpoint(shown)) => {
+                // so the page needs no place of its own for them
+                assert_eq!(named(&shown), cpu.get(bus.stopped, bus.hdma).registers);
+                5
+            }
+            Ok(cpu::CpuState::RunningInterrupt(i)) => 8 + i as u8,
+            Err(cpu::RunError::IllegalInstruction) => 16 + 3,
+        };
+        steps += 1;
+    }
+    Answer { outcome, state: cpu.get(bus.stopped, bus.hdma), bus, steps }
 }
 
 /// The states at power-on: without a boot skip, DMG, CGB with a CGB cartridge, CGB with a DMG cartridge.

@@ -1,7 +1,7 @@
 //! The pages: numbers in the proof language, one line a step.
 use crate::bus::Access;
 use crate::sample::{self, Asked, Chance};
-use crate::{power_on, step, tables, State};
+use crate::{power_on, run, step, tables, State};
 use std::fmt::Write;
 use std::path::Path;
 
@@ -12,20 +12,26 @@ fn packed(s: &State) -> String {
     format!("{:02x}{:02x}{:02x}{:02x}{:02x}{:02x}{:02x}{:02x}{:04x}{:04x}{:02x}", r.a, r.f, r.b, r.c, r.d, r.e, r.h, r.l, r.sp, r.pc, mode)
 }
 
-/// One line: the state, the bytes, then the state, outcome and M-cycles after, the accesses, and the bytes that changed.
-/// A list of bytes or accesses begins with a digit 1, so that no zeros are lost.
-fn line(asked: &Asked) -> String {
-    // only bytes that the step looks at, and the two that interrupts hang on, are kept; all others become 0
-    let looked = step(&asked.state, &asked.bytes).bus.looked;
-    let mut bytes = vec![0; 65536];
-    let mut kept = String::from("0x1");
+/// Six digits for each byte that is asked for. A list begins with a digit 1, so that no zeros are lost.
+fn listed(bytes: &[u8], asked: impl Fn(u16) -> bool) -> String {
+    let mut text = String::from("0x1");
     for a in 0..=0xffffu16 {
-        let byte = asked.bytes[a as usize];
-        if byte != 0 && (looked.contains(&a) || a == 0xff0f || a == 0xffff) {
-            bytes[a as usize] = byte;
-            write!(kept, "{:04x}{:02x}", a, byte).unwrap();
+        if asked(a) {
+            write!(text, "{:04x}{:02x}", a, bytes[a as usize]).unwrap();
         }
     }
+    text
+}
+
+/// Only the bytes that are looked at, and the two that interrupts hang on, are kept; all others become 0.
+fn pruned(asked: &Asked, budget: u16) -> Vec<u8> {
+    let looked = run(&asked.state, &asked.bytes, budget).bus.looked;
+    (0..=0xffffu16).map(|a| if looked.contains(&a) || a == 0xff0f || a == 0xffff { asked.bytes[a as usize] } else { 0 }).collect()
+}
+
+/// One line: the state, the bytes, then the state, outcome and M-cycles after, the accesses, and the bytes that changed.
+fn line(asked: &Asked) -> String {
+    let bytes = pruned(asked, 1);
     let answer = step(&asked.state, &bytes);
     let mut accesses = String::from("0x1");
     for access in &answer.bus.accesses {
@@ -36,15 +42,22 @@ fn line(asked: &Asked) -> String {
         };
         write!(accesses, "{}{:04x}{:02x}", kind, a, v).unwrap();
     }
-    let mut changed = String::from("0x1");
-    for a in 0..=0xffffu16 {
-        let byte = answer.bus.bytes[a as usize];
-        if byte != bytes[a as usize] {
-            write!(changed, "{:04x}{:02x}", a, byte).unwrap();
-        }
-    }
+    let kept = listed(&bytes, |a| bytes[a as usize] != 0);
+    let after = &answer.bus.bytes;
+    let changed = listed(after, |a| after[a as usize] != bytes[a as usize]);
     let cycles = answer.bus.accesses.len();
     format!("vector 0x{} {} 0x{}{:02x}{:02x} {} {}", packed(&asked.state), kept, packed(&answer.state), answer.outcome, cycles, accesses, changed)
+}
+
+/// One line: the budget, the state, the bytes, then the state, last outcome, steps and M-cycles after, and the bytes that changed.
+fn run_line(asked: &Asked, budget: u16) -> String {
+    let bytes = pruned(asked, budget);
+    let answer = run(&asked.state, &bytes, budget);
+    let kept = listed(&bytes, |a| bytes[a as usize] != 0);
+    let after = &answer.bus.bytes;
+    let changed = listed(after, |a| after[a as usize] != bytes[a as usize]);
+    let cycles = answer.bus.accesses.len();
+    format!("run {} 0x{} {} 0x{}{:02x}{:02x}{:02x} {}", budget, packed(&asked.state), kept, packed(&answer.state), answer.outcome, answer.steps, cycles, changed)
 }
 
 fn page(folder: &Path, name: &str, about: &str, uses: &str, lists: &[(&str, &str, String)]) {
@@ -56,6 +69,7 @@ fn page(folder: &Path, name: &str, about: &str, uses: &str, lists: &[(&str, &str
 }
 
 const STEPS: &str = "use mathlib.Core.List.{List, [], _∷_}\nuse Rattle.vectors.specs.Vector.{Vector, vector}\n";
+const RUNS: &str = "use mathlib.Core.List.{List, [], _∷_}\nuse Rattle.vectors.specs.RunVector.{RunVector, run}\n";
 const NUMBERS: &str = "use mathlib.Core.List.{List, [], _∷_}\nuse Prim.Native.Nat.{ℕ}\n";
 
 fn steps(folder: &Path, name: &str, list: &str, about: &str, asked: &[Asked]) -> usize {
@@ -91,6 +105,9 @@ pub fn write(folder: &Path, seed: u64) {
     count += steps(folder, "BeforeFetch", "before-fetch", "Points 1 to 4 of a step: stopped, HDMA running, halted, interrupted.", &asked);
     let asked = sample::after_the_fetch(&mut g);
     count += steps(folder, "AfterFetch", "after-fetch", "HALT, EI, DI, RETI, STOP, LD B,B and illegal opcodes in every mode, and jumps to their own start.", &asked);
+    let asked = sample::runs(&mut g);
+    let entries: String = asked.iter().map(|(a, budget)| format!("    {} ∷\n", run_line(a, *budget))).collect();
+    page(folder, "Runs", "Runs of up to nine steps: short programs with budgets around their ends.", RUNS, &[("runs", "RunVector", entries)]);
     let on: String = power_on().iter().map(|s| format!("    0x{} ∷\n", packed(s))).collect();
     page(folder, "PoweredOn", "The states at power-on: without a boot skip on DMG and CGB, DMG, CGB with a CGB cartridge, CGB with a DMG cartridge.", NUMBERS, &[("states", "ℕ", on)]);
     let lists = [("daas", "ℕ", numbers(&tables::daa(), 4)), ("accumulators", "ℕ", numbers(&tables::accumulator(), 4))];
@@ -100,5 +117,5 @@ pub fn write(folder: &Path, seed: u64) {
     page(folder, "Shifts", "A and F after the eight shifts, INC and DEC, for each A, C clear and set.", NUMBERS, &lists);
     let lists = [("sums", "ℕ", numbers(&tables::add_words(), 6)), ("offsets", "ℕ", numbers(&tables::add_signed(), 6))];
     page(folder, "Words", "HL and F after ADD HL,SP and LD HL,SP+e8, for words and bytes at the edges.", NUMBERS, &lists);
-    eprintln!("{} steps", count);
+    eprintln!("{} steps, {} runs", count, asked.len());
 }

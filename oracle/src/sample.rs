@@ -80,49 +80,44 @@ fn interrupts(g: &mut Chance, waiting: bool, asked: &mut Asked) {
 
 /// An opcode (from 0x100 on: after CB), in one of four ways, so that each condition is met and not met.
 pub fn opcode(g: &mut Chance, op: u16, way: u8) -> Asked {
-    let mut asked = anything(g);
-    let waiting = match way {
-        // interrupts off: what waits is not looked at
-        0 => g.one_in(2),
-        // interrupts on, and none waits
-        1 => {
-            asked.state.ime = true;
-            asked.state.latch = g.one_in(4);
-            false
+    loop {
+        let mut asked = anything(g);
+        let waiting = match way {
+            // interrupts off: what waits is not looked at
+            0 => g.one_in(2),
+            // interrupts on, and none waits
+            1 => {
+                asked.state.ime = true;
+                asked.state.latch = g.one_in(4);
+                false
+            }
+            // woken with interrupts off, which the latch may end
+            2 => {
+                asked.state.halt = g.of(&[1, 2]);
+                asked.state.latch = g.one_in(4);
+                true
+            }
+            // HaltBug, under which the byte after CB is CB
+            _ => {
+                asked.state.halt = if op < 0x100 || op == 0x1cb { 3 } else { 0 };
+                asked.state.ime = g.one_in(2);
+                asked.state.latch = g.one_in(4);
+                !asked.state.ime && g.one_in(2)
+            }
+        };
+        interrupts(g, waiting, &mut asked);
+        let f = &mut asked.state.registers.f;
+        *f = *f & 0x60 | [0x00, 0x80, 0x10, 0x90][way as usize];
+        let pc = asked.state.registers.pc;
+        let (first, second) = if op < 0x100 { (op as u8, g.byte()) } else { (0xcb, op as u8) };
+        asked.bytes[pc.wrapping_add(1) as usize] = second;
+        asked.bytes[pc as usize] = first;
+        // the code may stand on the bytes of the interrupts: again, if the step would not come to the opcode
+        let waits = asked.bytes[0xff0f] & asked.bytes[0xffff] & 0x1f != 0;
+        if !(asked.state.ime && waits) && !(way == 2 && !waits) {
+            return asked;
         }
-        // woken with interrupts off, which the latch may end
-        2 => {
-            asked.state.halt = g.of(&[1, 2]);
-            asked.state.latch = g.one_in(4);
-            true
-        }
-        // HaltBug
-        _ => {
-            asked.state.halt = 3;
-            asked.state.ime = g.one_in(2);
-            asked.state.latch = g.one_in(4);
-            !asked.state.ime && g.one_in(2)
-        }
-    };
-    interrupts(g, waiting, &mut asked);
-    let f = &mut asked.state.registers.f;
-    *f = *f & 0x60 | [0x00, 0x80, 0x10, 0x90][way as usize];
-    let pc = asked.state.registers.pc;
-    let (first, second) = if op < 0x100 { (op as u8, g.byte()) } else { (0xcb, op as u8) };
-    asked.bytes[pc.wrapping_add(1) as usize] = second;
-    asked.bytes[pc as usize] = first;
-    asked
-}
-
-/// A byte at PC, in a state that is awake.
-fn at_pc(g: &mut Chance, code: &[u8]) -> Asked {
-    let mut asked = anything(g);
-    let code_at = g.of(&[0x0000, 0x1234, 0xc0fe, 0xfffe]);
-    asked.state.registers.pc = code_at;
-    for (i, byte) in code.iter().enumerate() {
-        asked.bytes[code_at.wrapping_add(i as u16) as usize] = *byte;
     }
-    asked
 }
 
 /// Points 1 to 4 of a step: stopped, HDMA running, halted, interrupted.
@@ -176,17 +171,16 @@ pub fn before_the_fetch(g: &mut Chance) -> Vec<Asked> {
 /// Points 5 to 7 where the opcode alone does not decide: HALT, EI, jumps to their own start, breakpoints, illegal opcodes.
 pub fn after_the_fetch(g: &mut Chance) -> Vec<Asked> {
     let mut all = Vec::new();
-    let codes: [&[u8]; 8] = [&[0x76], &[0xfb], &[0xf3], &[0xd9], &[0x10], &[0x40], &[0xd3], &[0xed]];
-    for code in codes {
+    for code in [0x76, 0xfb, 0xf3, 0xd9, 0x10, 0x40, 0xd3, 0xed] {
         for bits in 0..16u8 {
-            let mut asked = at_pc(g, code);
+            let mut asked = anything(g);
             let bit = |i: u8| bits >> i & 1 == 1;
             (asked.state.ime, asked.state.latch) = (bit(0), bit(1));
             asked.state.halt = if bit(2) { 3 } else { 0 };
             interrupts(g, bit(3) && !bit(0), &mut asked);
-            // the bytes of the interrupts may have come over the code
-            let pc = asked.state.registers.pc;
-            asked.bytes[pc as usize] = code[0];
+            let pc = g.of(&[0x0000, 0x1234, 0xc0fe, 0xfffe]);
+            asked.state.registers.pc = pc;
+            asked.bytes[pc as usize] = code;
             all.push(asked);
         }
     }
@@ -203,6 +197,8 @@ pub fn after_the_fetch(g: &mut Chance) -> Vec<Asked> {
             all.push(jump(g, pc, [op, e, 0], halt, f));
         }
     }
+    // under HaltBug a jump's own first byte is the low byte of its target
+    all.push(jump(g, 0x12c3, [0xc3, 0x12, 0x00], 3, 0x00));
     all
 }
 
@@ -225,4 +221,30 @@ fn jump(g: &mut Chance, pc: u32, code: [u8; 3], halt: u8, f: u8) -> Asked {
         asked.bytes[(pc as usize + i) % 65536] = code[i];
     }
     asked
+}
+
+/// Runs: up to three instructions, then one that ends the run or does not, each with four budgets.
+pub fn runs(g: &mut Chance) -> Vec<(Asked, u16)> {
+    let mut all = Vec::new();
+    // JR to itself, LD B,B, STOP, an illegal opcode, HALT, EI and HALT, JR back to the byte before
+    let endings: [&[u8]; 7] = [&[0x18, 0xfe], &[0x40], &[0x10], &[0xe3], &[0x76], &[0xfb, 0x76], &[0x18, 0xfd]];
+    for ending in endings {
+        for before in 0..4u16 {
+            for budget in [0, before, before + 1, 9] {
+                let mut asked = anything(g);
+                asked.state.ime = g.one_in(4);
+                let waiting = g.one_in(2);
+                interrupts(g, waiting, &mut asked);
+                let start = g.of(&[0x0000, 0x1234, 0xfffd]);
+                asked.state.registers.pc = start;
+                let plain = (0..before).map(|_| g.of(&[0x04, 0x0d, 0x12, 0x22, 0x27, 0x3a, 0x86, 0x9a, 0xc5, 0xe1, 0xf1, 0xf3]));
+                let code: Vec<u8> = plain.chain(ending.iter().copied()).collect();
+                for (i, byte) in code.iter().enumerate() {
+                    asked.bytes[(start as usize + i) % 65536] = *byte;
+                }
+                all.push((asked, budget));
+            }
+        }
+    }
+    all
 }

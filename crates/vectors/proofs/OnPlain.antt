@@ -9,11 +9,14 @@ use lib.ListN.{getD, length, List·getD-eq-default}
 use Rattle.sm83.specs.Basics.{if_then_else_}
 use Rattle.sm83.specs.Bus.{Access, Ran, byteAt, mcycles}
 use Rattle.sm83.specs.Step.{Ended, stepOn}
+use Rattle.sm83.specs.Run.{RunAnswer}
 use Rattle.sm83.specs.Numbers.{outcomeNumber}
 use Rattle.vectors.specs.Sparse.{Sparse, look, shown, spreadFrom, spread}
 use Rattle.vectors.specs.Vector.{Vector, cpuIn, memoryBefore, memoryAfter, stepOf, places, sameAt, sameBytes, same, found, wanted, agrees, allAgree, ofCpu, shownBy, ofAccesses}
-use Rattle.vectors.specs.OnPlain.{plainStep, AsTheRust, EachAsTheRust}
+use Rattle.vectors.specs.RunVector.{RunVector, runBefore, runAfter, runOf, runFound, runWanted, runAgrees, allRunsAgree}
+use Rattle.vectors.specs.OnPlain.{Each, plainStep, AsTheRust, plainRun, RunsAsTheRust}
 use Rattle.vectors.proofs.Plain.{Shows, Alike, step-alike}
+use Rattle.vectors.proofs.PlainRun.{RunsAlike, run-alike}
 
 -- Truth values.
 
@@ -112,7 +115,28 @@ as-the-rust v e =
       leaves = λ a. alike .memory .bytes a ∙ same-bytes (stepOf v .memory) (memoryAfter v) (right-holds answer _ e) a;
     }
 
-pub each-as-the-rust : (l : List Vector) → allAgree l ≡ true → EachAsTheRust l
-unfolding allAgree EachAsTheRust
+pub each-as-the-rust : (l : List Vector) → allAgree l ≡ true → Each AsTheRust l
+unfolding allAgree Each
 each-as-the-rust [] e = tt
 each-as-the-rust (v ∷ l) e = (as-the-rust v (left-holds (agrees v) (allAgree l) e), each-as-the-rust l (right-holds (agrees v) (allAgree l) e))
+
+-- Runs.
+
+run-found-alike : (p : RunAnswer (List ℕ)) (q : RunAnswer Sparse) → RunsAlike p q → runFound p ≡ runFound q
+unfolding runFound
+run-found-alike p q s = simp (s .last, s .cpu, s .steps, s .cycles)
+
+pub runs-as-the-rust : (v : RunVector) → runAgrees v ≡ true → RunsAsTheRust v
+unfolding runAgrees plainRun
+runs-as-the-rust v e =
+    let alike : RunsAlike (plainRun v) (runOf v) = run-alike (v .budget) (cpuIn (v .before)) (spread (runBefore v)) (runBefore v) (shows-spread (runBefore v)) in
+    let answer : Bool = same (runFound (runOf v)) (runWanted v) in
+    record {
+      answers = run-found-alike (plainRun v) (runOf v) alike ∙ same-lists (runFound (runOf v)) (runWanted v) (left-holds answer _ e);
+      leaves = λ a. alike .memory .bytes a ∙ same-bytes (runOf v .memory) (runAfter v) (right-holds answer _ e) a;
+    }
+
+pub each-runs-as-the-rust : (l : List RunVector) → allRunsAgree l ≡ true → Each RunsAsTheRust l
+unfolding allRunsAgree Each
+each-runs-as-the-rust [] e = tt
+each-runs-as-the-rust (v ∷ l) e = (runs-as-the-rust v (left-holds (runAgrees v) (allRunsAgree l) e), each-runs-as-the-rust l (right-holds (runAgrees v) (allRunsAgree l) e))

@@ -86,7 +86,7 @@ module _ (s : Cpu) (m : List ℕ) (w : Sparse) (h : Shows m w) where
   admitted-alike accepted = tree-alike (stepTree s) m w h
   admitted-alike (refusedAs r) = record { value = refl; accesses = refl; memory = h }
 
-  same-admission : admission plain s m ≡ admission sparse s w
+  pub same-admission : admission plain s m ≡ admission sparse s w
   same-admission = ap (λ (n : ℕ). if eqb n 65536 then (if eqb (flags s % 16) 0 then accepted else refusedAs LowBitsOfF) else refusedAs MemoryLength) (h .long)
 
   pub step-alike : Alike (stepOn plain s m) (stepOn sparse s w)

@@ -1,6 +1,7 @@
 -- Plain memory by its bytes that matter, what a vector is and when the definition agrees with it; then the Rust's answers.
 pub mod Sparse
 pub mod Vector
+pub mod RunVector
 pub mod OnPlain
 pub mod Table
 pub mod Opcodes00
@@ -13,6 +14,7 @@ pub mod Prefixed80
 pub mod PrefixedC0
 pub mod BeforeFetch
 pub mod AfterFetch
+pub mod Runs
 pub mod PoweredOn
 pub mod OnA
 pub mod Alu

@@ -61,7 +61,7 @@ placedIn zero n = []
 placedIn (suc k) n = if ltb n 0x1000000 then [] else placed (n / 256 % 65536) (n % 256) ∷ placedIn k (n / 0x1000000)
 
 abbrev pub memoryIn : ℕ → Sparse
-memoryIn n = placedIn 24 n
+memoryIn n = placedIn 48 n
 
 -- What is compared: lists of numbers.
 
