@@ -1,0 +1,2 @@
+-- What is proved of the arithmetic besides its contracts.
+pub mod Signed
