@@ -1,0 +1,2 @@
+-- What the contracts of the screen's parts cite.
+pub mod Class
