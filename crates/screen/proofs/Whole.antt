@@ -1,9 +1,9 @@
 -- The parts together: 7 and 8, then 9, then 10; and the tests before them.
-use mathlib.Core.Path.{_≡_, refl, sym, ap, ap₂, subst, _∙_}
+use mathlib.Core.Path.{_≡_, refl, sym, ap, ap₂, subst⁻¹, _∙_}
 use mathlib.Core.List.{List}
 use Prim.Native.Nat.{ℕ, _+_, _-_}
 use native.Mathlib.Omega.{arith}
-use lib.ListN.{length, replicate}
+use lib.ListN.{length, replicate, length-replicate}
 use Rattle.sm83.specs.declared.outcome.Refusal.{Refusal}
 use Rattle.sm83.specs.declared.outcome.Refusal.the-variants.{JumpUnmarked}
 use Rattle.sm83.specs.declared.outcome.Verdict.{Verdict}
@@ -11,8 +11,15 @@ use Rattle.sm83.specs.declared.outcome.Verdict.the-variants.{Passes, Refused, R
 use Rattle.routine.specs.Screen.{walk, scan, firstOf, marksOf, isMarked, landsWell, marksAfter, verdict, Screened, screen}
 use Rattle.routine.proofs.Marks.{marks-length}
 use Rattle.routine.proofs.Before.{window, Early, Admitted, refuses, admits}
-use Rattle.screen.specs.Parts.{fallsFrom, straysFrom, settled, Walked, Judged}
+use Rattle.screen.specs.Parts.{Inside, fallsFrom, straysFrom, settled, Walked, Judged}
 use Rattle.screen.proofs.Verdicts.{third, not-third}
+
+-- the marks as the walk wants them
+pub fresh : (m : List ℕ) (first : ℕ) (marks cleared : List ℕ) → Inside m first (length marks) → cleared ≡ replicate (length marks) 0 → Inside m first (length cleared) × (cleared ≡ replicate (length cleared) 0)
+fresh m first marks cleared inside e = (subst⁻¹ (Inside m first) same inside, e ∙ ap (λ (j : ℕ). replicate j 0) (sym same))
+  where
+    same : length cleared ≡ length marks
+    same = ap length e ∙ length-replicate (length marks) 0
 
 module _ (m : List ℕ) (first n : ℕ) where
   abbrev astray : Verdict
@@ -59,4 +66,14 @@ module _ (m : List ℕ) (first last : ℕ) (marks : List ℕ) where
 
   -- 7, 8, 9, 10: "marks all 0", or none applies
   pub late : Admitted m first last marks → (v w : Verdict) (judged left : List ℕ) → length judged ≡ length marks → Judged m first (length marks) v judged → w ≡ v → left ≡ settled v judged → Answers w left
-  late ok v w judged left k said same e = ?
+  late ok v w judged left k said same e =
+      answers w left
+      (admits m first last marks ok
+      ∙ ap {B = Screened} (λ (j : ℕ). record { verdict = verdict m first j; marks = marksAfter (verdict m first j) m first j }) (sym (ok .marks-size))
+      ∙ ap {B = Screened} (λ (u : Verdict). record { verdict = u; marks = marksAfter u m first (length marks) }) (sym (said .finding))
+      ∙ ap₂ {C = Screened} (λ (u : Verdict) (l : List ℕ). record { verdict = u; marks = l }) (sym same) (sym (e ∙ after v (said .starts))))
+    where
+      after : (u : Verdict) → (u ≡ Passes → judged ≡ marksOf m first (length marks)) → settled u judged ≡ marksAfter u m first (length marks)
+      after Passes starts = starts refl
+      after (Refused r) starts = ap (λ (j : ℕ). replicate j 0) k
+      after (RefusedAt r a) starts = ap (λ (j : ℕ). replicate j 0) k

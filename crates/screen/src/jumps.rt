@@ -7,9 +7,11 @@ ghost use Rattle.sm83.specs.Bus.{byteAt};
 ghost use Rattle.routine.specs.Screen.{isMarked, landsWell};
 ghost use Rattle.screen.specs.Parts.{Inside, straysFrom};
 use crate::class::Class;
-use crate::walk::{address, shape_at};
+use crate::walk::address;
+use crate::walk::shape_at;
 use sm83::addr::Addr;
-use sm83::outcome::{Refusal, Verdict};
+use sm83::outcome::Refusal;
+use sm83::outcome::Verdict;
 
 // A signed byte as a word.
 fn extended(e: u8) -> u16

@@ -4,9 +4,11 @@ ghost use lib.ListN.{length};
 ghost use Rattle.routine.specs.Screen.{verdict, screen};
 ghost use Rattle.screen.specs.Parts.{Inside, settled, Judged};
 use crate::jumps::strays;
-use crate::walk::{clear, walk};
+use crate::walk::clear;
+use crate::walk::walk;
 use sm83::addr::Addr;
-use sm83::outcome::{Refusal, Verdict};
+use sm83::outcome::Refusal;
+use sm83::outcome::Verdict;
 
 const LONGEST_WINDOW: usize = 4096;
 

@@ -6,9 +6,11 @@ ghost use Rattle.sm83.specs.State.{addr};
 ghost use Rattle.routine.specs.Flow.{instructionAt};
 ghost use Rattle.screen.specs.Class.{shapeOf};
 ghost use Rattle.screen.specs.Parts.{fallsAt, Inside, Walked};
-use crate::class::{Shape, shape_of};
+use crate::class::Shape;
+use crate::class::shape_of;
 use sm83::addr::Addr;
-use sm83::outcome::{Refusal, Verdict};
+use sm83::outcome::Refusal;
+use sm83::outcome::Verdict;
 
 // "marks all 0"
 pub fn clear(marks: &mut [u8])

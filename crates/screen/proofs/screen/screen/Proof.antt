@@ -1,50 +1,39 @@
+-- One of the tests before the walk refuses, or the window is judged.
+use native.Mathlib.Omega.{arith}
 use borrow.Author.Needs.{needs}
+use Rattle.routine.proofs.Before.{wrong-memory, reversed, too-long, wrong-marks}
+use Rattle.screen.proofs.Whole.{early, late}
 use Rattle.screen.proofs.screen.screen.Statement.{statement}
 use Rattle.screen.proofs.screen.screen.Tie as tie
-use Rattle.screen.proofs.screen.screen.Reads as reads
-use Rattle.screen.proofs.screen.screen.Lts as lts
-use Rattle.screen.proofs.screen.judge.Reads as judge-reads
-use Rattle.screen.proofs.screen.settle.Reads as settle-reads
 
--- src/screen.rt:45:9
 returns : tie.Need-returns
-returns c = ?
+returns c =
+    let args = c .before .before .before .args in
+    early (args .mem .now) (args .first .0) (args .last .0) (args .marks .now) (wrong-memory (c .if1 .taken))
 
--- src/screen.rt:48:9
 returns-2 : tie.Need-returns-2
-returns-2 c = ?
+returns-2 c =
+    let args = c .before .before .before .before .before .before .args in
+    early (args .mem .now) (args .first .0) (args .last .0) (args .marks .now) (reversed (c .before .before .before .if1 .left) (c .if2 .taken))
 
--- src/screen.rt:50:13
-cast-n : tie.Need-cast-n
-cast-n c = search needs
-
--- src/screen.rt:50:13
-add-n : tie.Need-add-n
-add-n c = search needs
-
--- src/screen.rt:52:9
 returns-3 : tie.Need-returns-3
-returns-3 c = ?
+returns-3 c =
+    let args = c .before .before .before .before .before .before .before .before .before .args in
+    early (args .mem .now) (args .first .0) (args .last .0) (args .marks .now) (too-long (c .before .before .before .before .before .before .if1 .left) (c .before .before .before .if2 .left) (omega arith))
 
--- src/screen.rt:55:9
 returns-4 : tie.Need-returns-4
-returns-4 c = ?
+returns-4 c =
+    let args = c .before .before .before .before .before .before .before .before .before .before .args in
+    early (args .mem .now) (args .first .0) (args .last .0) (args .marks .now) (wrong-marks (c .before .before .before .before .before .before .before .if1 .left) (c .before .before .before .before .if2 .left) (omega arith) (λ same. c .if4 .taken (omega arith)))
 
--- src/screen.rt:57:12
-judge-requires : tie.Need-judge-requires
-judge-requires c κs = search needs
-
--- src/screen.rt:57:5
-settle-requires : tie.Need-settle-requires
-settle-requires c κs = search needs
-
--- src/screen.rt:40:1
-same-length : tie.Need-same-length
-same-length c = search needs
-
--- src/screen.rt:40:1
 returns-5 : tie.Need-returns-5
-returns-5 c = ?
+returns-5 c =
+    let args = c .before .before .before .before .before .before .before .before .before .before .before .before .before .before .before .before .before .before .args in
+    let judge = c .before .before .before .before .before .before .judge in
+    let settle = c .before .before .settle in
+    late (args .mem .now) (args .first .0) (args .last .0) (args .marks .now)
+    (record { memory = c .before .before .before .before .before .before .before .before .before .before .before .before .before .before .before .if1 .left; order = c .before .before .before .before .before .before .before .before .before .before .before .before .if2 .left; size = omega arith; marks-size = omega arith })
+    (judge .result) (settle .result) (judge .last .1 .1 .0) (settle .last .1 .0) (judge .kept .1 .1 .0) (judge .ensures) (settle .ensures .0) (settle .ensures .1)
 
 pub screen-spec : {M : Type 1} → statement M
 screen-spec =
@@ -52,11 +41,11 @@ screen-spec =
     (tie.spec
     returns
     returns-2
-    cast-n
-    add-n
+    (λ c. search needs)
+    (λ c. search needs)
     returns-3
     returns-4
-    judge-requires
-    settle-requires
-    same-length
+    (λ c κs. search needs)
+    (λ c κs. search needs)
+    (λ c. search needs)
     returns-5)

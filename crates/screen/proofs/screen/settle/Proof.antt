@@ -1,29 +1,14 @@
+-- A verdict that is not Passes clears the marks.
+use mathlib.Core.Path.{refl, _∙_}
 use borrow.Author.Needs.{needs}
+use Rattle.screen.proofs.Verdicts.{refuses, cleared}
 use Rattle.screen.proofs.screen.settle.Statement.{statement}
 use Rattle.screen.proofs.screen.settle.Tie as tie
-use Rattle.screen.proofs.screen.settle.Reads as reads
-use Rattle.screen.proofs.screen.settle.Lts as lts
-use Rattle.screen.proofs.walk.clear.Reads as clear-reads
 
--- src/screen.rt:31:28
-enum-told : tie.Need-enum-told
-enum-told c = search needs
-
--- src/screen.rt:33:13
-clear-requires : tie.Need-clear-requires
-clear-requires c κs = search needs
-
--- src/screen.rt:27:1
-returns : tie.Need-returns
-returns c = search needs
-
--- src/screen.rt:27:1
-same-length : tie.Need-same-length
-same-length c = search needs
-
--- src/screen.rt:27:1
 returns-2 : tie.Need-returns-2
-returns-2 c = ?
+returns-2 c =
+    let args = c .before .before .before .before .before .before .args in
+    (refl, c .before .before .clear .ensures ∙ cleared (args .verdict) (args .marks .now) (refuses (args .verdict) (c .before .before .before .before .match .keys2)))
 
 pub settle-spec : {M : Type 1} → statement M
-settle-spec = tie.close (tie.spec enum-told clear-requires returns same-length returns-2)
+settle-spec = tie.close (tie.spec (λ c. search needs) (λ c κs. search needs) (λ c. search needs) (λ c. search needs) returns-2)

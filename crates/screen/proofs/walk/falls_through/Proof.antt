@@ -7,12 +7,12 @@ use Rattle.screen.proofs.walk.falls_through.Statement.{statement}
 use Rattle.screen.proofs.walk.falls_through.Tie as tie
 
 returns : tie.Need-returns
-returns c = 
+returns c =
     let args = c .before .before .before .before .args in
     rw (class-test (args .mem .now) (args .last .0) _ (c .before .before .shape-at .ensures) endsRoutine _ (c .before .ends-routine .ensures) ∙ c .if1 .taken)
 
 returns-2 : tie.Need-returns-2
-returns-2 c = 
+returns-2 c =
     let args = c .before .before .before .before .args in
     rw (class-test (args .mem .now) (args .last .0) _ (c .before .before .shape-at .ensures) endsRoutine _ (c .before .ends-routine .ensures) ∙ c .if1 .left)
 
