@@ -1,5 +1,5 @@
 // The routine screen in code. What it answers is the definition's `screen` (the crate `routine`), for every input.
-pub mod class;
+mod class;
 mod jumps;
 pub mod screen;
 mod walk;

@@ -70,10 +70,12 @@ pub fn walk(mem: &[u8], first: Addr, marks: &mut [u8]) -> Verdict
         let shape = shape_at(mem, here);
         let length = shape.0 as usize;
         let class = shape.1;
-        if class.is_forbidden() {
+        let forbidden = class.is_forbidden();
+        let too_long = n - at < length;
+        if forbidden {
             return Verdict::RefusedAt(Refusal::ForbiddenOpcode, here);
         }
-        if n - at < length {
+        if too_long {
             return Verdict::RefusedAt(Refusal::PastTheEnd, here);
         }
         marks[at] = 1;
