@@ -10,3 +10,4 @@ pub mod Turn
 pub mod Scan
 pub mod Verdicts
 pub mod Whole
+pub mod Determined
