@@ -8,9 +8,9 @@ use Rattle.sm83.specs.declared.outcome.Refusal.{Refusal}
 use Rattle.sm83.specs.declared.outcome.Refusal.the-variants.{JumpUnmarked}
 use Rattle.sm83.specs.declared.outcome.Verdict.{Verdict}
 use Rattle.sm83.specs.declared.outcome.Verdict.the-variants.{Passes, Refused, RefusedAt}
-use Rattle.routine.specs.Screen.{walk, scan, firstOf, marksOf, isMarked, landsWell, marksAfter, verdict, Screened, screen}
+use Rattle.routine.specs.Screen.{walk, scan, marksOf, isMarked, landsWell, marksAfter, verdict, Screened, screen}
 use Rattle.routine.proofs.Marks.{marks-length}
-use Rattle.routine.proofs.Before.{window, Early, Admitted, refuses, admits}
+use Rattle.routine.proofs.Before.{Early, Admitted, refuses, admits}
 use Rattle.screen.specs.Parts.{Inside, fallsFrom, straysFrom, settled, Walked, Judged}
 use Rattle.screen.proofs.Verdicts.{third, not-third}
 

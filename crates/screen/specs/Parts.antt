@@ -1,7 +1,7 @@
 -- What the screen's parts answer, in the definition's words.
 use mathlib.Core.Path.{_≡_}
 use mathlib.Core.List.{List, [], _∷_}
-use Prim.Native.Nat.{ℕ, suc, _+_, _-_, _≤_, _<_}
+use Prim.Native.Nat.{ℕ, _+_, _-_, _≤_, _<_}
 use lib.ListN.{length, replicate}
 use Rattle.sm83.specs.declared.outcome.Refusal.the-variants.{FallsThrough, JumpUnmarked}
 use Rattle.sm83.specs.declared.outcome.Verdict.{Verdict}

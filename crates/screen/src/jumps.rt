@@ -7,11 +7,12 @@ ghost use Rattle.sm83.specs.Bus.{byteAt};
 ghost use Rattle.routine.specs.Screen.{isMarked, landsWell};
 ghost use Rattle.screen.specs.Parts.{Inside, straysFrom};
 use crate::class::Class;
-use crate::walk::address;
-use crate::walk::shape_at;
+use crate::window::address;
+use crate::window::shape_at;
 use sm83::addr::Addr;
 use sm83::outcome::Refusal;
 use sm83::outcome::Verdict;
+use sm83::registers::pair;
 
 // A signed byte as a word.
 fn extended(e: u8) -> u16
@@ -41,7 +42,7 @@ fn absolute(mem: &[u8], at: Addr) -> Addr
 {
     let low = byte_after(mem, at, 1);
     let high = byte_after(mem, at, 2);
-    Addr((high as u16) * 256 + (low as u16))
+    Addr(pair(high, low))
 }
 
 // Where a JR at an address goes: "A JR target counts from the byte after the JR, modulo 65,536."
@@ -53,6 +54,7 @@ fn relative(mem: &[u8], at: Addr) -> Addr
     after.wrapping_add(extended(byte_after(mem, at, 1)))
 }
 
+// No address outside the window is marked.
 fn is_marked(first: Addr, marks: &[u8], target: Addr) -> bool
     ensures { λ r. ⌜ r ≡ isMarked (now (marks .entry)) (first .0) (target .0) ⌝ }
 {

@@ -5,8 +5,8 @@ use Prim.Native.Nat.{ℕ, _≤_, _-_}
 use native.Mathlib.Omega.{arith}
 use lib.ListN.{length, replicate, drop, set, length-set, drop-of-length-le}
 use borrow.Author.Fill.{fill-none, fill-more}
-use Rattle.screen.proofs.walk.clear.Statement.{statement}
-use Rattle.screen.proofs.walk.clear.Tie as tie
+use Rattle.screen.proofs.window.clear.Statement.{statement}
+use Rattle.screen.proofs.window.clear.Tie as tie
 
 abbrev Inv-loop : tie.InvT-loop
 Inv-loop marks₀ n i₀ marks i = (i ≤ length marks₀) × (length marks ≡ length marks₀) × (marks ≡ replicate i 0 ++ drop i marks₀)

@@ -3,8 +3,8 @@ use mathlib.Core.Path.{ap}
 use native.Mathlib.Omega.{arith}
 use borrow.Author.Needs.{needs}
 use Rattle.sm83.specs.State.{addr}
-use Rattle.screen.proofs.walk.address.Statement.{statement}
-use Rattle.screen.proofs.walk.address.Tie as tie
+use Rattle.screen.proofs.window.address.Statement.{statement}
+use Rattle.screen.proofs.window.address.Tie as tie
 
 returns : tie.Need-returns
 returns c = ap addr (omega (arith, c .wrapping-add .ensures))
