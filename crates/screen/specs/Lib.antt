@@ -1,0 +1,3 @@
+-- What the contracts of the screen's parts cite.
+pub mod Class
+pub mod Parts

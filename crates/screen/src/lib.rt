@@ -1,0 +1,6 @@
+// The routine screen in code. What it answers is the definition's `screen` (the crate `routine`), for every input.
+mod class;
+mod jumps;
+pub mod screen;
+mod walk;
+mod window;
