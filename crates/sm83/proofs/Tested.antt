@@ -1,8 +1,9 @@
--- A test that is computed at every number below a bound holds at each of them.
+-- A law on numbers below a bound is one computed test: functions whose lists of values are equal agree, and a test that holds at each number holds at any.
 use mathlib.Core.Path.{_≡_, subst, sym}
 use mathlib.Core.Bool.{Bool, true, false, _&&_}
+use mathlib.Core.List.{List, [], _∷_}
 use Prim.Native.Nat.{ℕ, zero, suc, _≤_, _<_}
-use native.Mathlib.Nat.{not-suc-le-zero}
+use native.Mathlib.Nat.{le-of-suc-le-suc, not-suc-le-zero}
 use native.Mathlib.Decide.{ℕ-discrete}
 use native.Mathlib.Omega.{arith}
 use lib.Dec.{T}
@@ -31,3 +32,17 @@ at-or-below test n k (no ne) t lower h = lower (omega arith)
 pub at : (test : ℕ → Bool) (n : ℕ) → T (below test n) → (k : ℕ) → k < n → T (test k)
 at test zero t k h = absurd (not-suc-le-zero h)
 at test (suc n) t k h = at-or-below test n k (ℕ-discrete k n) (and-left (test n) (below test n) t) (at test n (and-right (test n) (below test n) t) k) h
+
+-- the values at the numbers below n
+abbrev pub upto : {A : Type 0} → (ℕ → A) → ℕ → List A
+upto f zero = []
+upto f (suc n) = f 0 ∷ upto (λ k. f (suc k)) n
+
+pub agree : {A : Type 0} (f g : ℕ → A) (n : ℕ) → upto f n ≡ upto g n → (k : ℕ) → k < n → f k ≡ g k
+agree f g zero e k h = absurd (not-suc-le-zero h)
+agree f g (suc n) e zero h = cc
+agree f g (suc n) e (suc k) h = agree (λ k. f (suc k)) (λ k. g (suc k)) n (cc) k (le-of-suc-le-suc h)
+
+-- and for two numbers
+pub agree-at-both : {A : Type 0} (f g : ℕ → ℕ → A) (m n : ℕ) → upto (λ j. upto (f j) n) m ≡ upto (λ j. upto (g j) n) m → (j k : ℕ) → j < m → k < n → f j k ≡ g j k
+agree-at-both f g m n e j k hj hk = agree (f j) (g j) n (agree (λ j. upto (f j) n) (λ j. upto (g j) n) m e j hj) k hk

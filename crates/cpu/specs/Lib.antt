@@ -1,0 +1,3 @@
+-- What the code of the processor does, as contracts state it.
+pub mod Leads
+pub mod Mirror

@@ -1,0 +1,35 @@
+// Plain memory.
+ghost use mathlib.Core.Path.{_≡_};
+ghost use Prim.Native.Nat.{_+_, _%_};
+ghost use lib.ListN.{length, set};
+ghost use Rattle.sm83.specs.Bus.{byteAt};
+ghost use Rattle.memory.specs.World.{counted};
+
+use sm83::addr::{Addr, MCycles};
+
+pub struct Port {
+    pub cycles: MCycles,
+}
+
+pub struct Got {
+    pub port: Port,
+    pub value: u8,
+}
+
+fn tick(port: Port) -> Port
+    ensures { λ r. ⌜ r ≡ counted port ⌝ }
+{
+    let n = port.cycles;
+    let c = std::num::wrapping_add_u32(n.0, 1);
+    let m = MCycles(c);
+    Port { cycles: m }
+}
+
+pub fn read(port: Port, mem: &mut [u8], a: Addr) -> Got
+    requires { ⌜ length (now mem) ≡ 65536 ⌝ }
+    ensures { λ r. ⌜ (r .value ≡ byteAt (now (mem .entry)) (a .0)) × (r .port ≡ counted port) × (now (mem .exit) ≡ now (mem .entry)) ⌝ }
+{
+    let at = a.0 as usize;
+    let v = mem[at];
+    Got { port: tick(port), value: v }
+}

@@ -1,0 +1,76 @@
+-- "It passes exactly when none of these applies": the verdict on a window passes exactly when the window keeps the rules, and else shows its finding.
+-- Addresses are plain numbers here: nothing is asked of first and n, so the screen's callers, with first ≤ last < 65,536, are among them.
+use mathlib.Core.Path.{_≡_, refl, subst}
+use mathlib.Core.Bool.{not}
+use mathlib.Core.Logic.{_⊎_, inl, inr, _↔_}
+use mathlib.Core.List.{List, [], _∷_}
+use Prim.Native.Nat.{ℕ, zero, suc, _+_, _≤_, _<_}
+use native.Mathlib.Nat.{eq-or-lt-of-le}
+use native.Mathlib.Omega.{arith}
+use lib.Dec.{T, T-not}
+use Rattle.sm83.specs.declared.addr.Addr.{Addr}
+use Rattle.sm83.specs.declared.outcome.Refusal.{Refusal}
+use Rattle.sm83.specs.declared.outcome.Refusal.the-variants.{FallsThrough, JumpUnmarked}
+use Rattle.sm83.specs.declared.outcome.Verdict.{Verdict}
+use Rattle.sm83.specs.declared.outcome.Verdict.the-variants.{Passes, Refused, RefusedAt}
+use Rattle.routine.specs.Flow.{flowAt, past, isForbidden, endsRoutine}
+use Rattle.routine.specs.Rules.{Start, at-first, after, Rules}
+use Rattle.routine.specs.Screen.{marksOf, isMarked, walk, endsWell, landsWell, scan, verdict}
+use Rattle.routine.proofs.Starts.{start-high}
+use Rattle.routine.proofs.Marks.{marked-start}
+use Rattle.routine.proofs.Findings.{Sound, Stops, JumpsToStarts, Every, Finding, forbidden, runs-past, falls-through, strays, Shows, and-then}
+use Rattle.routine.proofs.Walked.{walk-shows}
+use Rattle.routine.proofs.Scanned.{falls-shows, strays-shows}
+
+-- what the verdict on a window shows: the rules if it passes, the finding if it names an address
+pub verdict-shows : (m : List ℕ) (first n : ℕ) → Shows m first (first + n) (Rules m first (first + n)) (verdict m first n)
+unfolding verdict
+verdict-shows m first n =
+    let end = first + n in
+    let marked = isMarked (marksOf m first n) first in
+    let falls = scan FallsThrough marked (endsWell m end) first n in
+    let astray = scan JumpUnmarked marked (landsWell m marked) first n in
+    and-then m first end (Every m first end (Sound m first end)) (Rules m first end) (walk m first 0 first n) (falls ∷ astray ∷ []) (walk-shows m first n) λ sound.
+    and-then m first end (Every m first end (Stops m first end)) (Rules m first end) falls (astray ∷ []) (falls-shows m first end marked (marked-start m first n) n refl sound) λ stops.
+    and-then m first end (Every m first end (JumpsToStarts m first end)) (Rules m first end) astray [] (strays-shows m first end marked (marked-start m first n) n refl sound stops) λ lands.
+    record { allowed = λ a s. sound a s .0; fits = λ a s. sound a s .1; ends = stops; lands = λ a t s j. lands a s t j }
+
+pub found : (m : List ℕ) (first n : ℕ) (r : Refusal) (a : Addr) → verdict m first n ≡ RefusedAt r a → Finding m first (first + n) r (a .0)
+found m first n r a e = subst (Shows m first (first + n) (Rules m first (first + n))) e (verdict-shows m first n)
+
+module _ {m : List ℕ} {first end : ℕ} (rules : Rules m first end) where
+  -- where the rules are kept there is nothing to find
+  pub no-finding : {r : Refusal} {a : ℕ} → Finding m first end r a → ⊥
+  no-finding (forbidden {a} s below bad) = T-not (isForbidden (flowAt m a)) (rules .allowed a s) bad
+  no-finding (runs-past {a} s below ok far) = omega (arith, rules .fits a s)
+  no-finding (falls-through {a} s sound below last bad) = T-not (endsRoutine (flowAt m a)) bad (rules .ends a s last)
+  no-finding (strays {a} {t} s sound stops below jump none) = none (rules .lands a t s jump)
+
+  -- what does not end the routine is followed by a start
+  pub onward : {a : ℕ} → Start m first end a → T (not (endsRoutine (flowAt m a))) → Start m first end (past m a)
+  onward {a} s goes-on = go (eq-or-lt-of-le (rules .fits a s))
+    where
+      go : (past m a ≡ end) ⊎ (past m a < end) → Start m first end (past m a)
+      go (inl last) = absurd (T-not (endsRoutine (flowAt m a)) goes-on (rules .ends a s last))
+      go (inr low) = after s low
+
+  -- there is a last instruction, so 9 speaks of one
+  pub last-instruction : first < end → (a : ℕ) × Start m first end a × (past m a ≡ end) × T (endsRoutine (flowAt m a))
+  last-instruction low = from end first (at-first low) (omega arith)
+    where
+      from : (fuel a : ℕ) → Start m first end a → end ≤ a + fuel → (b : ℕ) × Start m first end b × (past m b ≡ end) × T (endsRoutine (flowAt m b))
+      from zero a s near = absurd (omega (arith, start-high s))
+      from (suc fuel) a s near = go (eq-or-lt-of-le (rules .fits a s)) (λ low. from fuel (past m a) (after s low) (omega arith))
+        where
+          go : (past m a ≡ end) ⊎ (past m a < end) → (past m a < end → (b : ℕ) × Start m first end b × (past m b ≡ end) × T (endsRoutine (flowAt m b))) → (b : ℕ) × Start m first end b × (past m b ≡ end) × T (endsRoutine (flowAt m b))
+          go (inl last) rest = (a, s, last, rules .ends a s last)
+          go (inr low) rest = rest low
+
+-- "It passes exactly when none of these applies."
+pub exactly : (m : List ℕ) (first n : ℕ) → (verdict m first n ≡ Passes) ↔ Rules m first (first + n)
+exactly m first n = (λ e. subst (Shows m first (first + n) (Rules m first (first + n))) e (verdict-shows m first n), λ rules. only rules (verdict m first n) (verdict-shows m first n))
+  where
+    only : Rules m first (first + n) → (v : Verdict) → Shows m first (first + n) (Rules m first (first + n)) v → v ≡ Passes
+    only rules Passes shown = refl
+    only rules (Refused r) shown = absurd shown
+    only rules (RefusedAt r a) shown = absurd (no-finding rules shown)

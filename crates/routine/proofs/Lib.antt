@@ -1,0 +1,22 @@
+-- The screen answers as its rules say; then demand 3.
+pub mod Starts
+pub mod Marks
+pub mod Jumps
+pub mod Findings
+pub mod Walked
+pub mod Scanned
+pub mod Exactly
+pub mod Decided
+pub mod Before
+pub mod Answers
+pub mod Opcodes
+pub mod Windows
+pub mod LowBits
+pub mod Calm
+pub mod Moves
+pub mod Keeper
+pub mod Inside
+pub mod Covered
+pub mod Alone
+pub mod Demand3
+pub mod RunDemand3

@@ -1,0 +1,112 @@
+-- The opcode bytes of each class, as lists: forbidden, ending a routine, jumping, returning; and the length of each. One computed test over all 256 bytes for each.
+use mathlib.Core.Path.{_≡_, refl, subst⁻¹}
+use mathlib.Core.Bool.{Bool, true, false, not, _||_}
+use mathlib.Core.Logic.{_⊎_, inl, inr, _↔_}
+use mathlib.Core.List.{List, [], _∷_}
+use Prim.Native.Nat.{ℕ, zero, suc, _<_}
+use native.Mathlib.Nat.{eq-or-lt-of-le}
+use native.Mathlib.Omega.{arith}
+use lib.Dec.{T, not-T, eqb}
+use lib.Ieee.Bits.{is-true}
+use mir.Facts.{T-not-not}
+use Rattle.sm83.specs.Basics.{if_then_else_, next}
+use Rattle.sm83.specs.Bus.{byteAt}
+use Rattle.sm83.specs.Arithmetic.{holds}
+use Rattle.sm83.specs.Instruction.{cNZ, cZ, cNC, cC, decode, lengthOf}
+use Rattle.routine.specs.Flow.{Flow, flowOf, flowAt, isForbidden, endsRoutine, jumpsWhere, returns}
+use Rattle.routine.specs.Rules.{JumpsTo}
+use Rattle.routine.proofs.Jumps.{target-passes, target-fails}
+
+-- the values below n, and that two functions with the same values are equal there
+abbrev values {ℓ} : {A : Type ℓ} → (ℕ → A) → ℕ → List A
+values f zero = []
+values f (suc n) = f n ∷ values f n
+
+agree : {A : Type 0} (f g : ℕ → A) (n : ℕ) → values f n ≡ values g n → (b : ℕ) → b < n → f b ≡ g b
+agree f g zero e b low = absurd (omega arith)
+agree {A} f g (suc n) e b low = by (eq-or-lt-of-le (omega arith)) (agree f g n tails b)
+  where
+    tails : values f n ≡ values g n
+    tails = cc
+
+    heads : f n ≡ g n
+    heads = cc
+
+    by : (b ≡ n) ⊎ (b < n) → (b < n → f b ≡ g b) → f b ≡ g b
+    by (inl same) rest = subst⁻¹ (λ (x : ℕ). f x ≡ g x) same heads
+    by (inr low) rest = rest low
+
+abbrev pub isOneOf : ℕ → List ℕ → Bool
+isOneOf b [] = false
+isOneOf b (x ∷ l) = eqb b x || isOneOf b l
+
+-- "Forbidden: the eleven of refusal 3, STOP, HALT, EI, RETI, JP HL, every CALL and RST", a line each for the eleven, the five, CALL and RST
+abbrev pub forbiddenBytes : List ℕ
+forbiddenBytes =
+    0xd3 ∷ 0xdb ∷ 0xdd ∷ 0xe3 ∷ 0xe4 ∷ 0xeb ∷ 0xec ∷ 0xed ∷ 0xf4 ∷ 0xfc ∷ 0xfd
+    ∷ 0x10 ∷ 0x76 ∷ 0xfb ∷ 0xd9 ∷ 0xe9
+    ∷ 0xcd ∷ 0xc4 ∷ 0xcc ∷ 0xd4 ∷ 0xdc
+    ∷ 0xc7 ∷ 0xcf ∷ 0xd7 ∷ 0xdf ∷ 0xe7 ∷ 0xef ∷ 0xf7 ∷ 0xff ∷ []
+
+-- "an unconditional JP, JR or RET"
+abbrev pub endingBytes : List ℕ
+endingBytes = 0xc3 ∷ 0x18 ∷ 0xc9 ∷ []
+
+-- "JP or JR, conditional or not"
+abbrev pub jumpingBytes : List ℕ
+jumpingBytes = 0xc3 ∷ 0xc2 ∷ 0xca ∷ 0xd2 ∷ 0xda ∷ 0x18 ∷ 0x20 ∷ 0x28 ∷ 0x30 ∷ 0x38 ∷ []
+
+-- a return at the flags f: RET and RETI always, RET NZ, RET Z, RET NC and RET C if the condition holds
+abbrev pub returnsByte : ℕ → ℕ → Bool
+returnsByte b f =
+    if isOneOf b (0xc9 ∷ 0xd9 ∷ []) then true else
+    (if eqb b 0xc0 then holds cNZ f else
+    (if eqb b 0xc8 then holds cZ f else
+    (if eqb b 0xd0 then holds cNC f else
+    (if eqb b 0xd8 then holds cC f else false))))
+
+-- LD r16,n16; LD [n16],SP; JP; CALL; LD [n16],A and LD A,[n16]
+abbrev pub bytesOfThree : List ℕ
+bytesOfThree =
+    0x01 ∷ 0x11 ∷ 0x21 ∷ 0x31 ∷ 0x08 ∷ 0xc2 ∷ 0xca ∷ 0xd2 ∷ 0xda ∷ 0xc3 ∷ 0xc4 ∷ 0xcc ∷ 0xd4 ∷ 0xdc ∷ 0xcd ∷ 0xea ∷ 0xfa ∷ []
+
+-- LD r8,n8; JR; arithmetic with n8; LDH; SP and e8; "CB opcodes being two bytes long"
+abbrev pub bytesOfTwo : List ℕ
+bytesOfTwo =
+    0x06 ∷ 0x0e ∷ 0x16 ∷ 0x1e ∷ 0x26 ∷ 0x2e ∷ 0x36 ∷ 0x3e ∷ 0x18 ∷ 0x20 ∷ 0x28 ∷ 0x30 ∷ 0x38
+    ∷ 0xc6 ∷ 0xce ∷ 0xd6 ∷ 0xde ∷ 0xe6 ∷ 0xee ∷ 0xf6 ∷ 0xfe ∷ 0xe0 ∷ 0xf0 ∷ 0xe8 ∷ 0xf8 ∷ 0xcb ∷ []
+
+abbrev pub lengthOfByte : ℕ → ℕ
+lengthOfByte b = if isOneOf b bytesOfThree then 3 else (if isOneOf b bytesOfTwo then 2 else 1)
+
+-- Of the instruction at an address, whatever bytes follow it. A byte is below 256.
+module _ (m : List ℕ) (a : ℕ) (is-byte : byteAt m a < 256) where
+  of-flow : (test : Flow → Bool) (of-byte : ℕ → Bool) → values (λ b. test (flowOf (decode b) a (byteAt m (next a)) (byteAt m (next (next a))))) 256 ≡ values of-byte 256 → test (flowAt m a) ≡ of-byte (byteAt m a)
+  unfolding flowAt
+  of-flow test of-byte e = agree (λ b. test (flowOf (decode b) a (byteAt m (next a)) (byteAt m (next (next a))))) of-byte 256 e (byteAt m a) is-byte
+
+  pub forbidden-bytes : isForbidden (flowAt m a) ≡ isOneOf (byteAt m a) forbiddenBytes
+  unfolding decode
+  forbidden-bytes = of-flow isForbidden (λ b. isOneOf b forbiddenBytes) refl
+
+  pub ending-bytes : endsRoutine (flowAt m a) ≡ isOneOf (byteAt m a) endingBytes
+  unfolding decode
+  ending-bytes = of-flow endsRoutine (λ b. isOneOf b endingBytes) refl
+
+  pub jumping-bytes : ((t : ℕ) × JumpsTo m a t) ↔ T (isOneOf (byteAt m a) jumpingBytes)
+  unfolding decode
+  jumping-bytes = (
+    λ (t, jump). T-not-not (isOneOf (byteAt m a) jumpingBytes) (not-T (not (isOneOf (byteAt m a) jumpingBytes)) (λ h. target-passes (λ x. false) jump (subst⁻¹ T lands-nowhere h))),
+    λ h. let (t, jump, none) = target-fails (λ x. false) (flowAt m a) (rw (lands-nowhere, is-true (isOneOf (byteAt m a) jumpingBytes) h) tt) in (t, jump),
+  )
+    where
+      lands-nowhere : jumpsWhere (λ x. false) (flowAt m a) ≡ not (isOneOf (byteAt m a) jumpingBytes)
+      lands-nowhere = of-flow (jumpsWhere (λ x. false)) (λ b. not (isOneOf b jumpingBytes)) refl
+
+  pub returning-bytes : (f : ℕ) → returns (decode (byteAt m a)) f ≡ returnsByte (byteAt m a) f
+  unfolding decode
+  returning-bytes f = agree (λ b. returns (decode b) f) (λ b. returnsByte b f) 256 refl (byteAt m a) is-byte
+
+  pub lengths : lengthOf (decode (byteAt m a)) ≡ lengthOfByte (byteAt m a)
+  unfolding decode
+  lengths = agree (λ b. lengthOf (decode b)) lengthOfByte 256 refl (byteAt m a) is-byte

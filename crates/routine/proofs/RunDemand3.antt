@@ -1,0 +1,51 @@
+-- Demand 3 for the budgeted run: if no step before its last takes a return or writes into the routine, each of its steps is fine, and its last outcome too; if its last does neither, then it ends covered.
+use mathlib.Core.Path.{_≡_, refl, subst⁻¹}
+use mathlib.Core.List.{List}
+use Prim.Native.Nat.{ℕ, suc, _+_, _≤_, _<_}
+use native.Mathlib.Omega.{arith}
+use lib.Dec.{T}
+use lib.ListN.{length}
+use Rattle.sm83.specs.declared.state.Cpu.{Cpu}
+use Rattle.sm83.specs.declared.outcome.LastOutcome.{LastOutcome}
+use Rattle.sm83.specs.Bus.{Bus, plain}
+use Rattle.sm83.specs.State.{pc}
+use Rattle.sm83.specs.Run.{runFor}
+use Rattle.routine.specs.Rules.{Start, Rules}
+use Rattle.routine.specs.Trace.{Quiet, isFineLast, stateAt, stepAt}
+use Rattle.routine.proofs.Keeper.{plain-keeps}
+use Rattle.routine.proofs.Covered.{Covered, Passed, Fine, accepts}
+use Rattle.routine.proofs.Alone.{memoryAt, run-end, run-last}
+use Rattle.routine.proofs.Demand3.{Stays, demand3-alone}
+
+-- of the steps that a run does: none before the last, or none at all, takes a return or writes into the window
+abbrev pub StaysToTheLast : {W : Type 0} → Bus W → ℕ → ℕ → ℕ → Cpu → W → Type 0
+StaysToTheLast b first n budget s m = (i : ℕ) → suc i < runFor b budget s m .steps → Stays b first n (memoryAt b s m) s i
+
+abbrev pub StaysToTheEnd : {W : Type 0} → Bus W → ℕ → ℕ → ℕ → Cpu → W → Type 0
+StaysToTheEnd b first n budget s m = (i : ℕ) → i < runFor b budget s m .steps → Stays b first n (memoryAt b s m) s i
+
+module _ {W : Type 0} {b : Bus W} {screened : List ℕ} {first n : ℕ} (passed : Passed b screened first n) {s : Cpu} {m : W} (begun : Covered b screened first n s m) (budget : ℕ) where
+  pub run-each : StaysToTheLast b first n budget s m → (i : ℕ) → i < runFor b budget s m .steps → Covered b screened first n (stateAt b (memoryAt b s m) s i) (memoryAt b s m i) × Fine (stepAt b (memoryAt b s m) s i)
+  run-each stays i below = demand3-alone passed s m begun i (λ j earlier. stays j (omega arith))
+
+  pub run-fine : StaysToTheLast b first n budget s m → T (isFineLast (runFor b budget s m .last))
+  run-fine stays = run-last b budget s m (accepts begun) (λ (o : LastOutcome). T (isFineLast o)) tt (λ i below. run-each stays i below .1 .outcome)
+
+  pub run-covered : StaysToTheEnd b first n budget s m → Covered b screened first n (runFor b budget s m .cpu) (runFor b budget s m .memory)
+  run-covered stays =
+      subst⁻¹ (λ (t : Cpu). Covered b screened first n t (runFor b budget s m .memory)) (run-end b budget s m (accepts begun) .0)
+      (subst⁻¹ (Covered b screened first n _) (run-end b budget s m (accepts begun) .1) (demand3-alone passed s m begun (runFor b budget s m .steps) stays .0))
+
+-- On plain memory, the one that was screened.
+module _ (m : List ℕ) (first n : ℕ) (rules : Rules m first (first + n)) (low : first + n ≤ 65536) (whole : length m ≡ 65536) (s : Cpu) (quiet : Quiet s) (start : Start m first (first + n) (pc s)) (budget : ℕ) where
+  passed : Passed plain m first n
+  passed = record { rules = rules; low = low; keeper = plain-keeps first n }
+
+  begun : Covered plain m first n s m
+  begun = record { is-quiet = quiet; at-start = start; shows = λ a from to. refl; whole = whole }
+
+  pub plain-run-fine : StaysToTheLast plain first n budget s m → T (isFineLast (runFor plain budget s m .last))
+  plain-run-fine = run-fine passed begun budget
+
+  pub plain-run-ends : StaysToTheEnd plain first n budget s m → Start m first (first + n) (pc (runFor plain budget s m .cpu)) × Quiet (runFor plain budget s m .cpu)
+  plain-run-ends stays = let end : _ = run-covered passed begun budget stays in (end .at-start, end .is-quiet)
