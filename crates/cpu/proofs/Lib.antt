@@ -1,2 +1,6 @@
 -- Laws over plain variables, each applied to what the callees of one function ensure.
 pub mod Parts
+-- The rows of 001's tables lead where the definition leads.
+pub mod Small
+pub mod Bridge8
+pub mod BridgeWork
