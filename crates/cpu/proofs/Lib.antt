@@ -4,3 +4,4 @@ pub mod Parts
 pub mod Small
 pub mod Bridge8
 pub mod BridgeWork
+pub mod BridgeJump
