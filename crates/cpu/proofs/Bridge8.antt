@@ -16,6 +16,10 @@ use Rattle.memory.specs.World.{world, leads, counted}
 use Rattle.cpu.specs.Mirror.{readOperand, writeOperand}
 use Rattle.cpu.proofs.Small.{Bytes, ByteRegisters, kept}
 
+-- equal trees lead to equal ends
+pub on : (m : List ℕ) (port : Port) {p q : Ask Ended} → p ≡ q → leads p (world port m) ≡ leads q (world port m)
+on m port e = ap (λ (t : Ask Ended). leads t (world port m)) e
+
 module _ (m : List ℕ) (bytes : Bytes m) (s : Cpu) (regs : ByteRegisters (s .registers)) (k j : ℕ → Cpu → Ask Ended) (same : (v : ℕ) (port : Port) → v < 256 → leads (k v s) (world port m) ≡ leads (j v s) (world port m)) where
   pub reads : (r : Reg8) (port : Port) → leads (readOperand (operand8 r) s k) (world port m) ≡ leads (get8 r s j) (world port m)
   unfolding leads readOperand get8
@@ -44,6 +48,6 @@ writes r v s k h = writes-low r v s k ∙ ap (λ (x : ℕ). put8 r x s k) (kept 
 
 -- what an operation makes of a byte and F, into F and the operand
 pub written : (op : ℕ → ℕ → Result) (r : Reg8) (v : ℕ) (s : Cpu) (k : Unit {0} → Cpu → Ask Ended) → v < 256 → op v (flags s) .value < 256 →
-  writeOperand (operand8 r) (op (lowByte v) (flags s) .value) (setF (op (lowByte v) (flags s) .flags) s) k ≡ into8 r (op v (flags s)) s k
+    writeOperand (operand8 r) (op (lowByte v) (flags s) .value) (setF (op (lowByte v) (flags s) .flags) s) k ≡ into8 r (op v (flags s)) s k
 written op r v s k small small-result =
     ap (λ (x : ℕ). writeOperand (operand8 r) (op x (flags s) .value) (setF (op x (flags s) .flags) s) k) (kept small) ∙ writes r (op v (flags s) .value) (setF (op v (flags s) .flags) s) k small-result

@@ -21,7 +21,7 @@ use Rattle.memory.specs.declared.Port.{Port}
 use Rattle.memory.specs.World.{world, leads, counted}
 use Rattle.cpu.specs.Mirror.{readOperand, writeOperand, compute, execRow}
 use Rattle.cpu.proofs.Small.{Bytes, ByteRegisters, kept, signed-low, alu-small}
-use Rattle.cpu.proofs.Bridge8.{reads, writes, written}
+use Rattle.cpu.proofs.Bridge8.{on, reads, writes, written}
 
 -- A pair of registers: read and written as the definition does.
 
@@ -45,7 +45,7 @@ rest i at v s k = compute (i .opcode) at v s (λ w t. writeOperand (i .dest) (w 
 
 -- a result into F and A, from the low bytes
 into-A : (o : Alu) (v : ℕ) (s : Cpu) (k : Outcome → Cpu → Ask Ended) → s .registers .a < 256 → v < 256 →
-  k Normal (onRegisters (writeA (lowByte (aluOp o (s .registers .a) (lowByte v) (s .registers .f) .value))) (setF (aluOp o (s .registers .a) (lowByte v) (s .registers .f) .flags) s)) ≡ intoA (aluOp o (s .registers .a) v (s .registers .f)) s (λ _ t. k Normal t)
+    k Normal (onRegisters (writeA (lowByte (aluOp o (s .registers .a) (lowByte v) (s .registers .f) .value))) (setF (aluOp o (s .registers .a) (lowByte v) (s .registers .f) .flags) s)) ≡ intoA (aluOp o (s .registers .a) v (s .registers .f)) s (λ _ t. k Normal t)
 into-A o v s k small-a small-v =
     let op : ℕ → Result = λ y. aluOp o (s .registers .a) y (s .registers .f) in
     ap (λ (y : ℕ). k Normal (onRegisters (writeA (lowByte (op y .value))) (setF (op y .flags) s))) (kept small-v)
@@ -75,10 +75,6 @@ alu-reads OR src at s k = refl
 alu-reads CP src at s k = refl
 
 module _ (m : List ℕ) (bytes : Bytes m) (at : ℕ) (s : Cpu) (regs : ByteRegisters (s .registers)) (k : Outcome → Cpu → Ask Ended) where
-  -- equal trees lead to equal ends
-  on : (port : Port) {p q : Ask Ended} → p ≡ q → leads p (world port m) ≡ leads q (world port m)
-  on port e = ap (λ (t : Ask Ended). leads t (world port m)) e
-
   -- a byte of memory into A
   loaded : (a : ℕ) (t : Cpu) → k Normal (onRegisters (writeA (lowByte (byteAt m a))) t) ≡ k Normal (onRegisters (writeA (byteAt m a)) t)
   loaded a t = ap (λ (v : ℕ). k Normal (onRegisters (writeA v) t)) (kept (bytes a))
@@ -87,29 +83,29 @@ module _ (m : List ℕ) (bytes : Bytes m) (at : ℕ) (s : Cpu) (regs : ByteRegis
   unfolding executing execRow readOperand compute writeOperand leads
   work-row NOP port = refl
   work-row DI port = refl
-  work-row (LD-r8-r8 to from) port = reads m bytes s regs _ _ (λ v port h. on port (writes to v s _ h)) from port
-  work-row (LD-r8-n8 to) port = on (counted port) (writes to _ _ _ (bytes (pc s)))
-  work-row (LD-r16-n16 to) port = on (counted (counted port)) (writes16 to _ _ _)
+  work-row (LD-r8-r8 to from) port = reads m bytes s regs _ _ (λ v port h. on m port (writes to v s _ h)) from port
+  work-row (LD-r8-n8 to) port = on m (counted port) (writes to _ _ _ (bytes (pc s)))
+  work-row (LD-r16-n16 to) port = on m (counted (counted port)) (writes16 to _ _ _)
   work-row (LD-[r16]-A [BC]) port = rw (kept (regs .small-a))
   work-row (LD-[r16]-A [DE]) port = rw (kept (regs .small-a))
   work-row (LD-[r16]-A [HL+]) port = rw (kept (regs .small-a))
   work-row (LD-[r16]-A [HL-]) port = rw (kept (regs .small-a))
-  work-row (LD-A-[r16] [BC]) port = on (counted port) (loaded _ s)
-  work-row (LD-A-[r16] [DE]) port = on (counted port) (loaded _ s)
-  work-row (LD-A-[r16] [HL+]) port = on (counted port) (loaded _ (onRegisters (moved [HL+]) s))
-  work-row (LD-A-[r16] [HL-]) port = on (counted port) (loaded _ (onRegisters (moved [HL-]) s))
+  work-row (LD-A-[r16] [BC]) port = on m (counted port) (loaded _ s)
+  work-row (LD-A-[r16] [DE]) port = on m (counted port) (loaded _ s)
+  work-row (LD-A-[r16] [HL+]) port = on m (counted port) (loaded _ (onRegisters (moved [HL+]) s))
+  work-row (LD-A-[r16] [HL-]) port = on m (counted port) (loaded _ (onRegisters (moved [HL-]) s))
   work-row LD-[n16]-A port = rw (kept (regs .small-a))
-  work-row LD-A-[n16] port = on (counted (counted (counted port))) (loaded _ (setPC (next (next (pc s))) s))
+  work-row LD-A-[n16] port = on m (counted (counted (counted port))) (loaded _ (setPC (next (next (pc s))) s))
   work-row LDH-[n8]-A port = rw (kept (regs .small-a))
-  work-row LDH-A-[n8] port = on (counted (counted port)) (loaded _ (setPC (next (pc s)) s))
+  work-row LDH-A-[n8] port = on m (counted (counted port)) (loaded _ (setPC (next (pc s)) s))
   work-row LDH-[C]-A port = rw (kept (regs .small-a))
-  work-row LDH-A-[C] port = on (counted port) (loaded _ s)
+  work-row LDH-A-[C] port = on m (counted port) (loaded _ s)
   work-row LD-[n16]-SP port = refl
   work-row LD-SP-HL port = refl
   work-row LD-HL-SP+e8 port = rw (signed-low (bytes (pc s)), leads)
   work-row ADD-SP-e8 port = rw (signed-low (bytes (pc s)), leads)
-  work-row (ALU-A-r8 o from) port = on port (alu-reads o _ at s k) ∙ reads m bytes s regs _ _ (λ v port h. on port (alu-rest o _ at v s k (regs .small-a) h)) from port
-  work-row (ALU-A-n8 o) port = on port (alu-reads o _ at s k) ∙ on (counted port) (alu-rest o _ at _ _ k (regs .small-a) (bytes (pc s)))
+  work-row (ALU-A-r8 o from) port = on m port (alu-reads o _ at s k) ∙ reads m bytes s regs _ _ (λ v port h. on m port (alu-rest o _ at v s k (regs .small-a) h)) from port
+  work-row (ALU-A-n8 o) port = on m port (alu-reads o _ at s k) ∙ on m (counted port) (alu-rest o _ at _ _ k (regs .small-a) (bytes (pc s)))
   work-row (ACC RLCA) port = refl
   work-row (ACC RRCA) port = refl
   work-row (ACC RLA) port = refl
@@ -118,11 +114,11 @@ module _ (m : List ℕ) (bytes : Bytes m) (at : ℕ) (s : Cpu) (regs : ByteRegis
   work-row (ACC CPL) port = refl
   work-row (ACC SCF) port = refl
   work-row (ACC CCF) port = refl
-  work-row (INC-r8 to) port = reads m bytes s regs _ _ (λ v port h. on port (written increment to v s _ h (omega arith))) to port
-  work-row (DEC-r8 to) port = reads m bytes s regs _ _ (λ v port h. on port (written decrement to v s _ h (omega arith))) to port
-  work-row (INC-r16 to) port = on port (reads16 to s _) ∙ on (counted port) (writes16 to _ _ _)
-  work-row (DEC-r16 to) port = on port (reads16 to s _) ∙ on (counted port) (writes16 to _ _ _)
-  work-row (ADD-HL-r16 from) port = on port (reads16 from s _)
+  work-row (INC-r8 to) port = reads m bytes s regs _ _ (λ v port h. on m port (written increment to v s _ h (omega arith))) to port
+  work-row (DEC-r8 to) port = reads m bytes s regs _ _ (λ v port h. on m port (written decrement to v s _ h (omega arith))) to port
+  work-row (INC-r16 to) port = on m port (reads16 to s _) ∙ on m (counted port) (writes16 to _ _ _)
+  work-row (DEC-r16 to) port = on m port (reads16 to s _) ∙ on m (counted port) (writes16 to _ _ _)
+  work-row (ADD-HL-r16 from) port = on m port (reads16 from s _)
   work-row (PUSH-r16 pBC) port = refl
   work-row (PUSH-r16 pDE) port = refl
   work-row (PUSH-r16 pHL) port = refl

@@ -5,3 +5,5 @@ pub mod Small
 pub mod Bridge8
 pub mod BridgeWork
 pub mod BridgeJump
+pub mod BridgePrefixed
+pub mod Bridge

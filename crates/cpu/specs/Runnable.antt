@@ -1,6 +1,6 @@
 -- What `exec_instruction` can be handed: an operand that is read, one that is written, an operation. 000's `unreachable!` arms are the rest; no row of the two tables has one.
 use mathlib.Core.Bool.{Bool, true, false, _&&_}
-use Prim.Native.Nat.{ℕ}
+use lib.Dec.{ltb}
 use Rattle.instruction.specs.declared.OperandType.{OperandType}
 use Rattle.instruction.specs.declared.OperandType.the-variants as ot
 use Rattle.instruction.specs.declared.Opcode.{Opcode}
@@ -63,7 +63,7 @@ writable ot.Addr16 = true
 writable ot.Addr16Val16 = true
 writable ot.Implied = true
 
--- the prefix is read with the byte that follows it
+-- the prefix is read with the byte that follows it; a byte has eight bits
 abbrev pub isOperation : Opcode → Bool
 isOperation op.Nop = true
 isOperation op.Stop = true
@@ -114,9 +114,9 @@ isOperation op.Sla = true
 isOperation op.Sra = true
 isOperation op.Swap = true
 isOperation op.Srl = true
-isOperation (op.Bit n) = true
-isOperation (op.Res n) = true
-isOperation (op.Set n) = true
+isOperation (op.Bit n) = ltb n 8
+isOperation (op.Res n) = ltb n 8
+isOperation (op.Set n) = ltb n 8
 isOperation op.Illegal = true
 
 abbrev pub runnable : Instruction → Bool

@@ -4,8 +4,8 @@ ghost use Prim.Native.Nat.{_+_, _%_};
 ghost use lib.ListN.{length, set};
 ghost use Rattle.sm83.specs.Bus.{byteAt};
 ghost use Rattle.memory.specs.World.{counted};
-
-use sm83::addr::{Addr, MCycles};
+use sm83::addr::Addr;
+use sm83::addr::MCycles;
 
 pub struct Port {
     pub cycles: MCycles,
@@ -31,5 +31,8 @@ pub fn read(port: Port, mem: &mut [u8], a: Addr) -> Got
 {
     let at = a.0 as usize;
     let v = mem[at];
-    Got { port: tick(port), value: v }
+    Got {
+        port: tick(port),
+        value: v,
+    }
 }
