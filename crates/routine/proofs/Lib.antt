@@ -20,3 +20,4 @@ pub mod Covered
 pub mod Alone
 pub mod Demand3
 pub mod RunDemand3
+pub mod PassedRoutine

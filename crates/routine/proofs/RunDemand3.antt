@@ -11,18 +11,11 @@ use Rattle.sm83.specs.Bus.{Bus, plain}
 use Rattle.sm83.specs.State.{pc}
 use Rattle.sm83.specs.Run.{runFor}
 use Rattle.routine.specs.Rules.{Start, Rules}
-use Rattle.routine.specs.Trace.{Quiet, isFineLast, stateAt, stepAt}
+use Rattle.routine.specs.Trace.{Quiet, Fine, isFineLast, stateAt, stepAt, memoryAt, StaysToTheLast, StaysToTheEnd}
 use Rattle.routine.proofs.Keeper.{plain-keeps}
-use Rattle.routine.proofs.Covered.{Covered, Passed, Fine, accepts}
-use Rattle.routine.proofs.Alone.{memoryAt, run-end, run-last}
-use Rattle.routine.proofs.Demand3.{Stays, demand3-alone}
-
--- of the steps that a run does: none before the last, or none at all, takes a return or writes into the window
-abbrev pub StaysToTheLast : {W : Type 0} → Bus W → ℕ → ℕ → ℕ → Cpu → W → Type 0
-StaysToTheLast b first n budget s m = (i : ℕ) → suc i < runFor b budget s m .steps → Stays b first n (memoryAt b s m) s i
-
-abbrev pub StaysToTheEnd : {W : Type 0} → Bus W → ℕ → ℕ → ℕ → Cpu → W → Type 0
-StaysToTheEnd b first n budget s m = (i : ℕ) → i < runFor b budget s m .steps → Stays b first n (memoryAt b s m) s i
+use Rattle.routine.proofs.Covered.{Covered, Passed, accepts}
+use Rattle.routine.proofs.Alone.{run-end, run-last}
+use Rattle.routine.proofs.Demand3.{demand3-alone}
 
 module _ {W : Type 0} {b : Bus W} {screened : List ℕ} {first n : ℕ} (passed : Passed b screened first n) {s : Cpu} {m : W} (begun : Covered b screened first n s m) (budget : ℕ) where
   pub run-each : StaysToTheLast b first n budget s m → (i : ℕ) → i < runFor b budget s m .steps → Covered b screened first n (stateAt b (memoryAt b s m) s i) (memoryAt b s m i) × Fine (stepAt b (memoryAt b s m) s i)

@@ -14,6 +14,7 @@ use Rattle.sm83.specs.Bus.{Bus, Ran, Access, Read, Write, Idle, WriteAndTake}
 use Rattle.sm83.specs.State.{pc, flags}
 use Rattle.sm83.specs.Instruction.{decode}
 use Rattle.sm83.specs.Step.{Ended, stepOn}
+use Rattle.sm83.specs.Run.{runFor}
 use Rattle.routine.specs.Flow.{returns}
 
 -- "the routine means every byte of the window"
@@ -28,6 +29,14 @@ spares first n (Write k a v ∷ l) = not (inWindow first n a) && spares first n 
 spares first n (Idle ∷ l) = spares first n l
 spares first n (WriteAndTake a v ∷ l) = not (inWindow first n a) && spares first n l
 
+-- no access of the list takes an interrupt
+abbrev pub takesNone : List Access → Bool
+takesNone [] = true
+takesNone (Read k a ∷ l) = takesNone l
+takesNone (Write k a v ∷ l) = takesNone l
+takesNone (Idle ∷ l) = takesNone l
+takesNone (WriteAndTake a v ∷ l) = false
+
 -- "awake means not stopped, HDMA not running and NotHalting; interrupts off means that IME is clear, whatever IE and IF hold; none being enabled means that the EI latch is clear"
 pub record Quiet (s : Cpu) : Type 0 where
   pub running : s .stopped ≡ false
@@ -37,7 +46,7 @@ pub record Quiet (s : Cpu) : Type 0 where
   pub none-enabled : s .latch ≡ false
   pub low-bits : flags s % 16 ≡ 0
 
--- "no step is refused, halts, stops or takes an interrupt", by its outcome
+-- an outcome that is no refusal, halt, stop or interrupt. (A dispatch whose interrupt is cancelled ends Normal: so the accesses are looked at too.)
 abbrev pub isFine : Outcome → Bool
 isFine Normal = true
 isFine InfiniteLoop = true
@@ -52,8 +61,14 @@ abbrev pub isFineLast : LastOutcome → Bool
 isFineLast NothingRun = true
 isFineLast (Last o) = isFine o
 
+-- "no step is refused, halts, stops or takes an interrupt": neither by its outcome, nor by its accesses, nor by the state that it leaves
+pub record Fine {W : Type 0} (r : Ran W Ended) : Type 0 where
+  pub outcome : T (isFine (r .value .outcome))
+  pub none-taken : T (takesNone (r .accesses))
+  pub leaves-quiet : Quiet (r .value .cpu)
+
 module _ {W : Type 0} (b : Bus W) where
-  -- a step takes a return, or writes into the window
+  -- the step from a state takes a return
   abbrev pub takesReturn : Cpu → W → Bool
   takesReturn s m = returns (decode (b .sees m (pc s))) (flags s)
 
@@ -70,9 +85,26 @@ module _ {W : Type 0} (b : Bus W) where
   abbrev pub stepAt : (ℕ → W) → Cpu → ℕ → Ran W Ended
   stepAt mem s k = stepOn b (stateAt mem s k) (mem k)
 
-  -- step i neither takes a return nor writes into the window, and the host changes no byte of the window before the next
-  pub record GoesOn (first n : ℕ) (mem : ℕ → W) (s : Cpu) (i : ℕ) : Type 0 where
+  -- step i neither takes a return nor writes into the window
+  pub record Stays (first n : ℕ) (mem : ℕ → W) (s : Cpu) (i : ℕ) : Type 0 where
     pub no-return : T (not (takesReturn (stateAt mem s i) (mem i)))
     pub no-write : T (spares first n (stepAt mem s i .accesses))
+
+  -- and before the next step a host changes what it likes, but no byte of the window
+  pub record GoesOn (first n : ℕ) (mem : ℕ → W) (s : Cpu) (i : ℕ) : Type 0 where
+    pub stays : Stays first n mem s i
     pub host : SameWindow first n (stepAt mem s i .memory) (mem (suc i))
     pub whole : b .size (mem (suc i)) ≡ 65536
+
+-- The memory before step k where no host changes it.
+unfoldable pub memoryAt : {W : Type 0} → Bus W → Cpu → W → ℕ → W
+memoryAt b s m zero = m
+memoryAt b s m (suc k) = memoryAt b (stepOn b s m .value .cpu) (stepOn b s m .memory) k
+
+-- Of the steps that a run does: none before its last, or none at all, takes a return or writes into the window.
+
+abbrev pub StaysToTheLast : {W : Type 0} → Bus W → ℕ → ℕ → ℕ → Cpu → W → Type 0
+StaysToTheLast b first n budget s m = (i : ℕ) → suc i < runFor b budget s m .steps → Stays b first n (memoryAt b s m) s i
+
+abbrev pub StaysToTheEnd : {W : Type 0} → Bus W → ℕ → ℕ → ℕ → Cpu → W → Type 0
+StaysToTheEnd b first n budget s m = (i : ℕ) → i < runFor b budget s m .steps → Stays b first n (memoryAt b s m) s i

@@ -1,8 +1,48 @@
+-- What is proved of the definition, by subject.
+-- computed tests, flags and arithmetic
 pub mod Tested
 pub mod Flags
 pub mod Carries
 pub mod WordCarries
 pub mod Shifts
 pub mod SingleBits
+pub mod OneBit
 pub mod Logic
 pub mod Decimal
+-- the published columns and the M-cycles of a step
+pub mod Choices
+pub mod Ends
+pub mod FlagColumns
+pub mod FlagLaws
+pub mod Cycles
+pub mod Columns
+pub mod WorkColumns
+pub mod JumpColumns
+pub mod ExecuteColumns
+pub mod Agreement
+pub mod StepRuns
+pub mod SmallCycles
+pub mod StepCycles
+pub mod Lengths
+pub mod Published
+-- one part of a step after another
+pub mod Compose
+pub mod Parts
+-- repeated steps
+pub mod Runs
+pub mod Stops
+-- every register in its range, every byte a byte, no length changed
+pub mod Bytes
+pub mod Ranged
+pub mod Keeping
+pub mod KeepingExecution
+pub mod KeepingStep
+pub mod Ranges
+-- which of the seven points a step takes; refusals; interrupts
+pub mod Interrupts
+pub mod Course
+pub mod PlainCourse
+pub mod NeverRefuses
+pub mod Refusals
+pub mod RefusesOnly
+pub mod Dispatch

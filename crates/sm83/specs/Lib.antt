@@ -7,5 +7,6 @@ pub mod Instruction
 pub mod Arithmetic
 pub mod Execution
 pub mod Step
+pub mod Published
 pub mod Numbers
 pub mod Run
