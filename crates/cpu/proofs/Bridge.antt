@@ -17,7 +17,8 @@ use Rattle.memory.specs.declared.Port.{Port}
 use Rattle.memory.specs.World.{world, leads}
 use Rattle.cpu.specs.Mirror.{readOperand, writeOperand, compute, execRow}
 use Rattle.cpu.specs.Runnable.{runnable}
-use Rattle.cpu.proofs.Small.{Bytes, ByteRegisters}
+use Rattle.sm83.proofs.Ranges.{Bytes}
+use Rattle.cpu.proofs.Small.{ByteRegisters}
 use Rattle.cpu.proofs.BridgeWork.{work-row}
 use Rattle.cpu.proofs.BridgeJump.{jump-row}
 use Rattle.cpu.proofs.BridgePrefixed.{decoded-one-of-eight, prefixed-row}

@@ -14,7 +14,8 @@ use Rattle.instruction.specs.Row.{operand8}
 use Rattle.memory.specs.declared.Port.{Port}
 use Rattle.memory.specs.World.{world, leads, counted}
 use Rattle.cpu.specs.Mirror.{readOperand, writeOperand}
-use Rattle.cpu.proofs.Small.{Bytes, ByteRegisters, kept}
+use Rattle.sm83.proofs.Ranges.{Bytes}
+use Rattle.cpu.proofs.Small.{ByteRegisters, kept}
 
 -- equal trees lead to equal ends
 pub on : (m : List ℕ) (port : Port) {p q : Ask Ended} → p ≡ q → leads p (world port m) ≡ leads q (world port m)

@@ -20,7 +20,9 @@ use Rattle.instruction.specs.Row.{operand16, aluRow, workRow}
 use Rattle.memory.specs.declared.Port.{Port}
 use Rattle.memory.specs.World.{world, leads, counted}
 use Rattle.cpu.specs.Mirror.{readOperand, writeOperand, compute, execRow}
-use Rattle.cpu.proofs.Small.{Bytes, ByteRegisters, kept, signed-low, alu-small}
+use Rattle.sm83.proofs.Ranged.{alu-sound}
+use Rattle.sm83.proofs.Ranges.{Bytes}
+use Rattle.cpu.proofs.Small.{ByteRegisters, kept, signed-low}
 use Rattle.cpu.proofs.Bridge8.{on, reads, writes, written}
 
 -- A pair of registers: read and written as the definition does.
@@ -49,7 +51,7 @@ into-A : (o : Alu) (v : ℕ) (s : Cpu) (k : Outcome → Cpu → Ask Ended) → s
 into-A o v s k small-a small-v =
     let op : ℕ → Result = λ y. aluOp o (s .registers .a) y (s .registers .f) in
     ap (λ (y : ℕ). k Normal (onRegisters (writeA (lowByte (op y .value))) (setF (op y .flags) s))) (kept small-v)
-    ∙ ap (λ (y : ℕ). k Normal (onRegisters (writeA y) (setF (op v .flags) s))) (kept (alu-small o (s .registers .a) v (s .registers .f) small-a small-v))
+    ∙ ap (λ (y : ℕ). k Normal (onRegisters (writeA y) (setF (op v .flags) s))) (kept (alu-sound o (s .registers .a) v (s .registers .f) small-a small-v .0))
 
 alu-rest : (o : Alu) (src : OperandType) (at v : ℕ) (s : Cpu) (k : Outcome → Cpu → Ask Ended) → s .registers .a < 256 → v < 256 → rest (aluRow o src) at v s k ≡ intoA (aluOp o (s .registers .a) v (s .registers .f)) s (λ _ t. k Normal t)
 unfolding compute writeOperand
