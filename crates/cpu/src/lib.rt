@@ -4,11 +4,11 @@ ghost use Prim.Native.Nat.{_+_, _%_};
 ghost use lib.ListN.{length};
 ghost use Rattle.sm83.specs.Execution.{imm8, imm16};
 ghost use Rattle.cpu.specs.Leads.{Leads};
-
+use memory::Got;
+use memory::Port;
 use sm83::addr::Addr;
 use sm83::registers::pair;
 use sm83::state::Cpu;
-use memory::{Got, Port};
 
 pub struct Val8 {
     pub cpu: Cpu,
@@ -34,7 +34,11 @@ pub fn fetch_next_pc(cpu: Cpu, port: Port, mem: &mut [u8]) -> Val8
     regs.pc = after;
     let mut s = cpu;
     s.registers = regs;
-    Val8 { cpu: s, port: p, value: got.value }
+    Val8 {
+        cpu: s,
+        port: p,
+        value: got.value,
+    }
 }
 
 pub fn fetch16(cpu: Cpu, port: Port, mem: &mut [u8]) -> Val16
@@ -47,5 +51,9 @@ pub fn fetch16(cpu: Cpu, port: Port, mem: &mut [u8]) -> Val16
     let y = fetch_next_pc(c, p, mem);
     let d = y.cpu;
     let q = y.port;
-    Val16 { cpu: d, port: q, value: pair(y.value, x.value) }
+    Val16 {
+        cpu: d,
+        port: q,
+        value: pair(y.value, x.value),
+    }
 }

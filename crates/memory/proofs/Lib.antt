@@ -1,0 +1,2 @@
+-- What the callees of taking an interrupt ensure, put together.
+pub mod Taking
