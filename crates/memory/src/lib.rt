@@ -1,11 +1,12 @@
-// Plain memory.
+// Plain memory: the 65,536 bytes that the caller lends, and a port that counts the M-cycles.
 ghost use mathlib.Core.Path.{_≡_};
-ghost use Prim.Native.Nat.{_+_, _%_};
 ghost use lib.ListN.{length, set};
 ghost use Rattle.sm83.specs.Bus.{byteAt};
 ghost use Rattle.memory.specs.World.{counted};
 use sm83::addr::Addr;
 use sm83::addr::MCycles;
+
+pub mod interrupts;
 
 pub struct Port {
     pub cycles: MCycles,
@@ -27,7 +28,7 @@ fn tick(port: Port) -> Port
 
 pub fn read(port: Port, mem: &mut [u8], a: Addr) -> Got
     requires { ⌜ length (now mem) ≡ 65536 ⌝ }
-    ensures { λ r. ⌜ (r .value ≡ byteAt (now (mem .entry)) (a .0)) × (r .port ≡ counted port) × (now (mem .exit) ≡ now (mem .entry)) ⌝ }
+    ensures { λ r. ⌜ (r .value ≡ byteAt (now (mem .entry)) (a .0)) × (r .port ≡ counted port) × (now (mem .exit) ≡ now (mem .entry)) × (length (now (mem .exit)) ≡ 65536) ⌝ }
 {
     let at = a.0 as usize;
     let v = mem[at];
@@ -35,4 +36,21 @@ pub fn read(port: Port, mem: &mut [u8], a: Addr) -> Got
         port: tick(port),
         value: v,
     }
+}
+
+pub fn write(port: Port, mem: &mut [u8], a: Addr, v: u8) -> Port
+    requires { ⌜ length (now mem) ≡ 65536 ⌝ }
+    ensures { λ r. ⌜ (r ≡ counted port) × (now (mem .exit) ≡ set (now (mem .entry)) (a .0) v) × (length (now (mem .exit)) ≡ 65536) ⌝ }
+{
+    let at = a.0 as usize;
+    mem[at] = v;
+    tick(port)
+}
+
+// `advance_bus` of the Rust, whose `read(0)` changes nothing on plain memory.
+pub fn idle(port: Port, mem: &mut [u8]) -> Port
+    requires { ⌜ length (now mem) ≡ 65536 ⌝ }
+    ensures { λ r. ⌜ (r ≡ counted port) × (now (mem .exit) ≡ now (mem .entry)) × (length (now (mem .exit)) ≡ 65536) ⌝ }
+{
+    tick(port)
 }

@@ -10,16 +10,7 @@ use Rattle.sm83.specs.Basics.{if_then_else_}
 use Rattle.sm83.specs.Bus.{Bus, mcycles}
 use Rattle.sm83.specs.Step.{Admission, accepted, admission, stepOn}
 use Rattle.sm83.specs.Run.{stopsRun, RunAnswer, thenRest, repeated, admittedRun, runFor}
-<<<<<<< HEAD
-use Rattle.routine.specs.Trace.{stateAt, stepAt}
-
--- the memory before step k
-unfoldable pub memoryAt : {W : Type 0} → Bus W → Cpu → W → ℕ → W
-memoryAt b s m zero = m
-memoryAt b s m (suc k) = memoryAt b (stepOn b s m .value .cpu) (stepOn b s m .memory) k
-=======
 use Rattle.routine.specs.Trace.{stateAt, stepAt, memoryAt}
->>>>>>> 027f087d879842a4513b8bd76aba540f6af65ad9
 
 either-way : {W : Type 0} (P : RunAnswer W → Type 0) (test : Bool) (x y : RunAnswer W) → P x → P y → P (if test then x else y)
 either-way P true x y p q = p

@@ -57,11 +57,7 @@ module _ (m : List ℕ) (first last : ℕ) (marks : List ℕ) where
       let same : _≡_ {A = Screened} (record { verdict = v; marks = left }) (record { verdict = w; marks = other }) = sym (only-answer v left p) ∙ only-answer w other q in
       (ap (λ (s : Screened). s .verdict) same, ap (λ (s : Screened). s .marks) same)
 
-<<<<<<< HEAD
-  when-passed : screen m first last marks .verdict ≡ Passes → Says Passes (screen m first last marks .marks)
-=======
   pub when-passed : screen m first last marks .verdict ≡ Passes → Says Passes (screen m first last marks .marks)
->>>>>>> 027f087d879842a4513b8bd76aba540f6af65ad9
   when-passed e = subst (λ (v : Verdict). Says v (screen m first last marks .marks)) e screen-says
 
   -- "It passes exactly when none of these applies", with the four tests before the walk

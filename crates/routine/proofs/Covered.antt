@@ -11,15 +11,9 @@ use Rattle.sm83.specs.Instruction.{decode}
 use Rattle.sm83.specs.Step.{Ended, stepTree, Admission, accepted, admission, admitted, stepOn}
 use Rattle.routine.specs.Flow.{returns}
 use Rattle.routine.specs.Rules.{Start, Rules}
-<<<<<<< HEAD
-use Rattle.routine.specs.Trace.{Quiet, isFine, spares, takesReturn}
-use Rattle.routine.proofs.Calm.{Calm}
-use Rattle.routine.proofs.Keeper.{Keeper, takesNone, Came, shown}
-=======
 use Rattle.routine.specs.Trace.{Quiet, Fine, spares, takesReturn}
 use Rattle.routine.proofs.Calm.{Calm}
 use Rattle.routine.proofs.Keeper.{Keeper, Came, shown}
->>>>>>> 027f087d879842a4513b8bd76aba540f6af65ad9
 use Rattle.routine.proofs.Inside.{Stepped, step-ends, not-before, within}
 
 -- "started at any marked address as the document says": quiet, at a start, in a memory of 65,536 bytes that shows the screened window
@@ -35,15 +29,6 @@ pub record Passed {W : Type 0} (b : Bus W) (screened : List ℕ) (first n : ℕ)
   pub low : first + n ≤ 65536
   pub keeper : Keeper b first n
 
-<<<<<<< HEAD
--- "no step is refused, halts, stops or takes an interrupt": neither by its outcome, nor by its accesses, nor by the state that it leaves
-pub record Fine {W : Type 0} (r : Ran W Ended) : Type 0 where
-  pub outcome : T (isFine (r .value .outcome))
-  pub none-taken : T (takesNone (r .accesses))
-  pub leaves-quiet : Quiet (r .value .cpu)
-
-=======
->>>>>>> 027f087d879842a4513b8bd76aba540f6af65ad9
 as-calm : {s : Cpu} → Quiet s → Calm s
 as-calm q = (q .running, q .no-hdma, q .not-halting, q .off, q .none-enabled, q .low-bits)
 

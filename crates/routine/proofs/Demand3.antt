@@ -11,22 +11,10 @@ use Rattle.sm83.specs.declared.state.Cpu.{Cpu}
 use Rattle.sm83.specs.Bus.{Bus, plain}
 use Rattle.sm83.specs.State.{pc}
 use Rattle.routine.specs.Rules.{Start, Rules}
-<<<<<<< HEAD
-use Rattle.routine.specs.Trace.{Quiet, spares, takesReturn, SameWindow, stateAt, stepAt, GoesOn}
-use Rattle.routine.proofs.Keeper.{plain-keeps}
-use Rattle.routine.proofs.Covered.{Covered, Passed, Fine, step-fine, step-stays}
-use Rattle.routine.proofs.Alone.{memoryAt, alone}
-
--- step i of a trace neither takes a return nor writes into the window
-pub record Stays {W : Type 0} (b : Bus W) (first n : ℕ) (mem : ℕ → W) (s : Cpu) (i : ℕ) : Type 0 where
-  pub no-return : T (not (takesReturn b (stateAt b mem s i) (mem i)))
-  pub no-write : T (spares first n (stepAt b mem s i .accesses))
-=======
 use Rattle.routine.specs.Trace.{Quiet, Fine, SameWindow, stateAt, stepAt, Stays, GoesOn, memoryAt}
 use Rattle.routine.proofs.Keeper.{plain-keeps}
 use Rattle.routine.proofs.Covered.{Covered, Passed, step-fine, step-stays}
 use Rattle.routine.proofs.Alone.{alone}
->>>>>>> 027f087d879842a4513b8bd76aba540f6af65ad9
 
 module _ {W : Type 0} {b : Bus W} {screened : List ℕ} {first n : ℕ} (passed : Passed b screened first n) where
   module _ (mem : ℕ → W) (s : Cpu) where
@@ -55,11 +43,7 @@ module _ {W : Type 0} {b : Bus W} {screened : List ℕ} {first n : ℕ} (passed 
     where
       follows : (i : ℕ) → GoesOn b first n mem s i → Follows mem s i
       follows i g = (
-<<<<<<< HEAD
-        record { no-return = g .no-return; no-write = g .no-write },
-=======
         g .stays,
->>>>>>> 027f087d879842a4513b8bd76aba540f6af65ad9
         λ c. record { is-quiet = c .is-quiet; at-start = c .at-start; shows = λ a from to. g .host a from to ∙ c .shows a from to; whole = g .whole },
       )
 

@@ -10,11 +10,7 @@ use lib.ListN.{length-set}
 use lib.Seq.{getD-set-other}
 use Rattle.sm83.specs.Bus.{Kind, Ask, answer, read, write, idle, peek, writeAndTake, Access, Read, Write, Idle, WriteAndTake, Bus, Ran, runOn, plain}
 use Rattle.sm83.specs.Step.{Ended}
-<<<<<<< HEAD
-use Rattle.routine.specs.Trace.{inWindow, spares, SameWindow}
-=======
 use Rattle.routine.specs.Trace.{takesNone, inWindow, spares, SameWindow}
->>>>>>> 027f087d879842a4513b8bd76aba540f6af65ad9
 use Rattle.routine.proofs.Calm.{anything, Ends}
 
 both-left : (p q : Bool) → T (p && q) → T p
@@ -51,17 +47,6 @@ plain-keeps first n = record {
     apart : (a x : ℕ) → T (not (inWindow first n a)) → first ≤ x → x < first + n → x ≢ a
     apart a x spared from to e = T-not (inWindow first n a) spared (both (leb first a) (ltb a (first + n)) (le→leb first a (omega arith)) (lt→ltb a (first + n) (omega arith)))
 
-<<<<<<< HEAD
--- a list of accesses that takes no interrupt
-abbrev pub takesNone : List Access → Bool
-takesNone [] = true
-takesNone (Read k a ∷ l) = takesNone l
-takesNone (Write k a v ∷ l) = takesNone l
-takesNone (Idle ∷ l) = takesNone l
-takesNone (WriteAndTake a v ∷ l) = false
-
-=======
->>>>>>> 027f087d879842a4513b8bd76aba540f6af65ad9
 module _ {W : Type 0} (b : Bus W) where
   -- a memory whose bytes are as K says
   abbrev pub Tells : (ℕ → ℕ → Type 0) → W → Type 0
