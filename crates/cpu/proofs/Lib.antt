@@ -7,3 +7,5 @@ pub mod BridgeWork
 pub mod BridgeJump
 pub mod BridgePrefixed
 pub mod Bridge
+-- The stages of a step.
+pub mod Fetching

@@ -2,3 +2,4 @@
 pub mod Leads
 pub mod Mirror
 pub mod Runnable
+pub mod Stages
