@@ -9,3 +9,4 @@ pub mod BridgePrefixed
 pub mod Bridge
 -- The stages of a step.
 pub mod Fetching
+pub mod Stepping

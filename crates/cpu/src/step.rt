@@ -103,7 +103,13 @@ fn unbug(cpu: Cpu, at: Addr) -> Cpu
 }
 
 // 5 and 6. After 0xCB another byte says what is to be done.
-fn fetch_instruction(cpu: Cpu, port: Port, plain: &[u32; 256], prefixed: &[u32; 256], mem: &mut [u8]) -> Fetched
+fn fetch_instruction(
+    cpu: Cpu,
+    port: Port,
+    plain: &[u32; 256],
+    prefixed: &[u32; 256],
+    mem: &mut [u8],
+) -> Fetched
     requires { ⌜ length (now mem) ≡ 65536 ⌝ }
     requires { ⌜ Plain (now plain) ⌝ }
     requires { ⌜ Prefixed (now prefixed) ⌝ }
@@ -139,7 +145,13 @@ fn fetch_instruction(cpu: Cpu, port: Port, plain: &[u32; 256], prefixed: &[u32; 
 }
 
 // 5 to 7.
-fn run_one(cpu: Cpu, port: Port, plain: &[u32; 256], prefixed: &[u32; 256], mem: &mut [u8]) -> Executed
+fn run_one(
+    cpu: Cpu,
+    port: Port,
+    plain: &[u32; 256],
+    prefixed: &[u32; 256],
+    mem: &mut [u8],
+) -> Executed
     requires { ⌜ length (now mem) ≡ 65536 ⌝ }
     requires { ⌜ Plain (now plain) ⌝ }
     requires { ⌜ Prefixed (now prefixed) ⌝ }
@@ -209,7 +221,13 @@ fn is_called(ime: bool, mem: &mut [u8]) -> bool
 }
 
 // 4 to 7.
-fn awake(cpu: Cpu, port: Port, plain: &[u32; 256], prefixed: &[u32; 256], mem: &mut [u8]) -> Executed
+fn awake(
+    cpu: Cpu,
+    port: Port,
+    plain: &[u32; 256],
+    prefixed: &[u32; 256],
+    mem: &mut [u8],
+) -> Executed
     requires { ⌜ length (now mem) ≡ 65536 ⌝ }
     requires { ⌜ Plain (now plain) ⌝ }
     requires { ⌜ Prefixed (now prefixed) ⌝ }
@@ -268,7 +286,13 @@ fn wake(cpu: Cpu, port: Port, mem: &mut [u8]) -> Woken
 }
 
 // 1 to 7.
-pub fn next_instruction(cpu: Cpu, port: Port, plain: &[u32; 256], prefixed: &[u32; 256], mem: &mut [u8]) -> Executed
+pub fn next_instruction(
+    cpu: Cpu,
+    port: Port,
+    plain: &[u32; 256],
+    prefixed: &[u32; 256],
+    mem: &mut [u8],
+) -> Executed
     requires { ⌜ length (now mem) ≡ 65536 ⌝ }
     requires { ⌜ Plain (now plain) ⌝ }
     requires { ⌜ Prefixed (now prefixed) ⌝ }

@@ -17,16 +17,16 @@ returns c =
     let one = c .before .before .before .before .before .before .before .before .before in
     let first = c .before .before .before .before .before .before .before .before .before .before .before .before .before .before .fetch-next-pc in
     let it =
-      fetches-prefixed _ _ _ _ _ _ _ _ (c .before .before .before .before .before .before .before .before .before .before .before .before .before .before .before .before .before .before .enable .ensures) (first .ensures .0) _ _ (one .unbug .ensures) _ _ _ _ (c .before .before .before .before .before .before .before .if1 .taken) (second .ensures .0)
-      (omega (arith, second .ok)) (c .from-prefix .ensures) (λ i. omega (arith, c .before .before .before .slice-known3 .given i)) (omega (arith, second .ok)) in
+    fetches-prefixed _ _ _ _ _ _ _ _ (c .before .before .before .before .before .before .before .before .before .before .before .before .before .before .before .before .before .before .enable .ensures) (first .ensures .0) _ _ (one .unbug .ensures) _ _ _ _ (c .before .before .before .before .before .before .before .if1 .taken) (second .ensures .0)
+    (omega (arith, second .ok)) (c .from-prefix .ensures) (λ i. omega (arith, c .before .before .before .slice-known3 .given i)) (omega (arith, second .ok)) in
     (it .0, it .1, second .ensures .1)
 
 returns-2 : tie.Need-returns-2
 returns-2 c =
     let first = c .before .before .before .before .before .before .before .before .fetch-next-pc in
     let it =
-      fetches-plain _ _ _ _ _ _ _ _ (c .before .before .before .before .before .before .before .before .before .before .before .before .enable .ensures) (first .ensures .0) _ _ (c .before .before .before .unbug .ensures) (omega (arith, first .ok))
-      (c .before .if1 .left) (c .from-byte .ensures) (λ i. omega (arith, c .before .before .before .before .before .before .slice-known2 .given i)) (omega (arith, c .before .before .before .unbug .ok)) in
+    fetches-plain _ _ _ _ _ _ _ _ (c .before .before .before .before .before .before .before .before .before .before .before .before .enable .ensures) (first .ensures .0) _ _ (c .before .before .before .unbug .ensures) (omega (arith, first .ok))
+    (c .before .if1 .left) (c .from-byte .ensures) (λ i. omega (arith, c .before .before .before .before .before .before .slice-known2 .given i)) (omega (arith, c .before .before .before .unbug .ok)) in
     (it .0, it .1, first .ensures .1)
 
 pub fetch-instruction-spec : {M : Type 1} → statement M

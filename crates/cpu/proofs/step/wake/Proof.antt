@@ -1,74 +1,41 @@
+-- Shows point 3.
 use borrow.Author.Needs.{needs}
+use Rattle.cpu.proofs.Stepping.{not-asleep, still-asleep, woken-dmg, woken-cgb}
 use Rattle.cpu.proofs.step.wake.Statement.{statement}
 use Rattle.cpu.proofs.step.wake.Tie as tie
-use Rattle.cpu.proofs.step.wake.Reads as reads
-use Rattle.cpu.proofs.step.wake.Lts as lts
-use Rattle.cpu.proofs.step.is_asleep.Reads as is-asleep-reads
-use Rattle.cpu.proofs.step.not_halting.Reads as not-halting-reads
-use Rattle.memory.proofs.idle.Reads as idle-reads
-use Rattle.memory.proofs.interrupts.peek.Reads as peek-reads
 
--- src/step.rt:232:9
-is-asleep-requires : tie.Need-is-asleep-requires
-is-asleep-requires c κs = search needs
-
--- src/step.rt:234:13
-idle-requires : tie.Need-idle-requires
-idle-requires c κs = search needs
-
--- src/step.rt:235:13
-peek-requires : tie.Need-peek-requires
-peek-requires c κs = search needs
-
--- src/step.rt:238:17
-not-halting-requires : tie.Need-not-halting-requires
-not-halting-requires c κs = search needs
-
--- src/step.rt:247:21
-idle-requires-2 : tie.Need-idle-requires-2
-idle-requires-2 c κs = search needs
-
--- src/step.rt:227:1
-same-length : tie.Need-same-length
-same-length c = search needs
-
--- src/step.rt:227:1
 returns : tie.Need-returns
-returns c = ?
+returns c =
+    let idle = c .before .before .before .before .before .before .before .before .before .idle in
+    let peek = c .before .before .before .before .before .peek in (
+      woken-dmg (c .before .before .before .before .before .before .before .before .before .before .before .before .before .before .args .cpu) _ _ _ (c .before .before .before .before .before .before .before .before .before .before .before .before .is-asleep .ensures) _ _ _ _ (c .before .before .before .before .before .before .before .before .before .before .before .if1 .taken) (idle .ensures .0) (idle .ensures .1) (peek .ensures .0) (peek .ensures .1)
+          _ (c .before .before .if2 .taken) (c .before .not-halting .ensures) (c .if3 .taken),
+      peek .ensures .2,
+    )
 
--- src/step.rt:227:1
-same-length-2 : tie.Need-same-length-2
-same-length-2 c = search needs
-
--- src/step.rt:227:1
 returns-2 : tie.Need-returns-2
-returns-2 c = ?
+returns-2 c =
+    let idle = c .before .before .before .before .before .before .before .before .before .before .before .before .before .idle in
+    let peek = c .before .before .before .before .before .before .before .before .before .peek in
+    let more = c .before .before .idle2 in (
+      woken-cgb (c .before .before .before .before .before .before .before .before .before .before .before .before .before .before .before .before .before .before .args .cpu) _ _ _ (c .before .before .before .before .before .before .before .before .before .before .before .before .before .before .before .before .is-asleep .ensures) _ _ _ _ (c .before .before .before .before .before .before .before .before .before .before .before .before .before .before .before .if1 .taken) (idle .ensures .0) (idle .ensures .1) (peek .ensures .0) (peek .ensures .1)
+          _ (c .before .before .before .before .before .before .if2 .taken) (c .before .before .before .before .before .not-halting .ensures) _ _ (c .before .before .before .before .if3 .left) (more .ensures .0) (more .ensures .1),
+      more .ensures .2,
+    )
 
--- src/step.rt:227:1
-same-length-3 : tie.Need-same-length-3
-same-length-3 c = search needs
-
--- src/step.rt:227:1
 returns-3 : tie.Need-returns-3
-returns-3 c = ?
+returns-3 c =
+    let idle = c .before .before .before .before .before .before .before .idle in
+    let peek = c .before .before .before .peek in (
+      still-asleep _ _ _ _ (c .before .before .before .before .before .before .before .before .before .before .is-asleep .ensures) _ _ _ _ (c .before .before .before .before .before .before .before .before .before .if1 .taken) (idle .ensures .0) (idle .ensures .1) (peek .ensures .0) (peek .ensures .1) (c .if2 .left),
+      peek .ensures .2,
+    )
 
--- src/step.rt:227:1
 returns-4 : tie.Need-returns-4
-returns-4 c = ?
+returns-4 c = (not-asleep _ _ _ _ (c .before .is-asleep .ensures) (c .if1 .left), c .before .before .before .pre)
 
 pub wake-spec : {M : Type 1} → statement M
 wake-spec =
     tie.close
     (tie.spec
-    is-asleep-requires
-    idle-requires
-    peek-requires
-    not-halting-requires
-    idle-requires-2
-    same-length
-    returns
-    same-length-2
-    returns-2
-    same-length-3
-    returns-3
-    returns-4)
+    (λ c κs. search needs) (λ c κs. search needs) (λ c κs. search needs) (λ c κs. search needs) (λ c κs. search needs) (λ c. search needs) returns (λ c. search needs) returns-2 (λ c. search needs) returns-3 returns-4)
