@@ -1,1 +1,2 @@
-pub mod SingleBits
+-- What is proved of the arithmetic besides its contracts.
+pub mod Signed

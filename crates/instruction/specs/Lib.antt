@@ -1,2 +1,4 @@
--- What a row of the two tables is for each instruction of the definition.
+-- The bridge from the definition's instructions to the code's, and what the tables' entries stand for.
 pub mod Row
+pub mod Operand
+pub mod Entry

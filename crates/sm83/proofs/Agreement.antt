@@ -8,16 +8,10 @@ use Rattle.sm83.specs.Published.{FlagColumn, keep, entry, isCB, oneOf, b
 use Rattle.sm83.proofs.Tested.{agree}
 use Rattle.sm83.proofs.FlagColumns.{flagsWith, flagsOf, prefixedFlags}
 use Rattle.sm83.proofs.Cycles.{cyclesWith, cyclesOf, prefixedCycles}
-use Rattle.sm83.proofs.ExecuteColumns.{isIllegal}
 
 pub bytes-agree : (x : ℕ) → x < 256 → lengthOf (decode x) ≡ publishedBytes x
 unfolding decode bytes publishedBytes
 bytes-agree = agree _ _ 256 refl
-
--- "opcode D3 DB DD E3 E4 EB EC ED F4 FC FD": these and no others
-pub illegal-agree : (x : ℕ) → x < 256 → isIllegal (decode x) ≡ oneOf illegalOpcodes x
-unfolding decode illegalOpcodes
-illegal-agree = agree _ _ 256 refl
 
 after-CB-cycles : (y : ℕ) → y < 256 → suc (suc (prefixedCycles (decodeCB y))) ≡ entry 2 cyclesAfterCB y
 unfolding decodeCB cyclesAfterCB

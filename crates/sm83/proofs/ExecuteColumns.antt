@@ -19,16 +19,7 @@ use Rattle.sm83.proofs.Cycles.{cyclesOf, prefixedCycles, jumps}
 use Rattle.sm83.proofs.Columns.{Columns, Onward, keeps}
 use Rattle.sm83.proofs.WorkColumns.{work-columns, prefixed-columns}
 use Rattle.sm83.proofs.JumpColumns.{jump-columns}
-
-abbrev pub isIllegal : Instruction → Bool
-isIllegal (does w) = false
-isIllegal (goes j) = false
-isIllegal CB-prefix = false
-isIllegal HALT = false
-isIllegal STOP = false
-isIllegal EI = false
-isIllegal LD-B-B = false
-isIllegal ILLEGAL = true
+use Rattle.sm83.proofs.Illegal.{isIllegal}
 
 -- the fetch after CB before the rest
 after-CB : (x : ℕ) {p f : ℕ} {l : List Access} {e : Ended} → Onward (prefixedCycles (decodeCB x)) 0 (prefixedFlags (decodeCB x)) (next p) f l e → Onward (cyclesOf false CB-prefix x) 1 (flagsOf CB-prefix x) p f (Read Fetch p ∷ l) e

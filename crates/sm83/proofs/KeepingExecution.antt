@@ -15,7 +15,7 @@ use Rattle.sm83.specs.Instruction.{Cond, Work, NOP, DI, LD-r8-r8, LD-r8-
 use Rattle.sm83.specs.Instruction.{Jump, JP-n16, JP-HL, JR-e8, CALL-n16, RET, RETI, JP-cc-n16, JR-cc-e8, CALL-cc-n16, RET-cc, RST-vec}
 use Rattle.sm83.specs.Instruction.{Instruction, does, goes, CB-prefix, HALT, STOP, EI, LD-B-B, ILLEGAL, Prefixed, SHIFT-r8, BIT-u3-r8, RES-u3-r8, SET-u3-r8, decodeCB}
 use Rattle.sm83.specs.Execution.{Does, high, work, prefixed, normal, goFrom, call, return, onlyIf, jump, halt, execute}
-use Rattle.sm83.proofs.Bytes.{at-each}
+use Rattle.sm83.proofs.Tested.{at}
 use Rattle.sm83.proofs.Ranged.{Ranged, Flags, flags-sound, alu-sound, shift-sound, acc-sound, increment-sound, decrement-sound, cleared-byte, raised-byte}
 use Rattle.sm83.proofs.Keeping.{Byte, Place, Any, Keeps, _⟫=_, _⟫_, given, said, changed, registers-say, loaded, stored, waited, peeked, either-keeps, set-a, set-f, set-sp, set-pc, set-hl, a-said, f-said, sp-said, pc-said, hl-said, byte-keeps, imm8-keeps, imm16-keeps, get8-keeps, put8-keeps, get16-keeps, put16-keeps, getStacked-keeps, putStacked-keeps, pointed-keeps, moved-keeps, push-keeps, pop-keeps, intoA-keeps, into8-keeps}
 
@@ -38,7 +38,7 @@ bitInByte (SET-u3-r8 n r) = ltb n 8
 -- the byte after CB names a bit of a byte
 decodeCB-named : (x : ℕ) → Byte x → T (bitInByte (decodeCB x))
 unfolding decodeCB
-decodeCB-named x hx = at-each (λ b. bitInByte (decodeCB b)) 256 tt x hx
+decodeCB-named x hx = at (λ b. bitInByte (decodeCB b)) 256 tt x hx
 
 -- RST goes to an address
 abbrev jumpInRange : Jump → Bool

@@ -13,7 +13,7 @@ use Rattle.sm83.specs.Bus.{Fetch, Stack, isInterrupt}
 use Rattle.sm83.specs.State.{pc, sp, setPC, setSP, setIme, setLatch, setHalt}
 use Rattle.sm83.specs.Instruction.{decode}
 use Rattle.sm83.specs.Step.{isAsleep, isBug, vector, storeAndTake, dispatch, enabled, fetched, instruction, awake, woken, step}
-use Rattle.sm83.proofs.Bytes.{at-each}
+use Rattle.sm83.proofs.Tested.{at}
 use Rattle.sm83.proofs.Ranged.{Ranged, ranged-pc, ranged-sp}
 use Rattle.sm83.proofs.Keeping.{Byte, Place, Keeps, _⟫=_, _⟫_, given, said, changed, loaded, stored, waited, peeked, either-keeps}
 use Rattle.sm83.proofs.KeepingExecution.{vectorInRange, OutcomeRanged, execute-keeps}
@@ -33,7 +33,7 @@ interrupt-or-not i false e = tt
 -- a byte names no vector out of range
 decode-ranged : (b : ℕ) → Byte b → T (vectorInRange (decode b))
 unfolding decode
-decode-ranged b h = at-each (λ x. vectorInRange (decode x)) 256 tt b h
+decode-ranged b h = at (λ x. vectorInRange (decode x)) 256 tt b h
 
 enabled-ranged : (s : Cpu) (t : Bool) → Ranged (s .registers) → Ranged ((if t then setIme true (setLatch false s) else s) .registers)
 enabled-ranged s true r = r

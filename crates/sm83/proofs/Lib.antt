@@ -9,6 +9,8 @@ pub mod SingleBits
 pub mod OneBit
 pub mod Logic
 pub mod Decimal
+-- the illegal opcodes
+pub mod Illegal
 -- the published columns and the M-cycles of a step
 pub mod Choices
 pub mod Ends
@@ -31,8 +33,8 @@ pub mod Parts
 -- repeated steps
 pub mod Runs
 pub mod Stops
+pub mod Stopping
 -- every register in its range, every byte a byte, no length changed
-pub mod Bytes
 pub mod Ranged
 pub mod Keeping
 pub mod KeepingExecution

@@ -17,6 +17,7 @@ use Rattle.sm83.specs.Execution.{Does, _>>=_, _>>_, change, asked, byteA
 use Rattle.sm83.specs.Step.{Ended, ended}
 use Rattle.sm83.proofs.Compose.{bind}
 use Rattle.sm83.proofs.Parts.{left, work-alone, prefixed-alone}
+use Rattle.sm83.proofs.Illegal.{isIllegal}
 
 abbrev pub refuses : Outcome → Bool
 refuses Normal = false
@@ -82,16 +83,6 @@ jump-never at (RST-vec v) s = tt
 halt-never : (t : Bool) (s : Cpu) → Never ((if t then change (setHalt HaltRunInterrupt) else (do i ← asked; change (setHalt (if isInterrupt i then HaltBug else HaltNoRunInterrupt)))) s (λ u t'. ended Normal t'))
 halt-never true s = tt
 halt-never false s = λ i. tt
-
-abbrev pub isIllegal : Instruction → Bool
-isIllegal (does w) = false
-isIllegal (goes j) = false
-isIllegal CB-prefix = false
-isIllegal HALT = false
-isIllegal STOP = false
-isIllegal EI = false
-isIllegal LD-B-B = false
-isIllegal ILLEGAL = true
 
 pub execute-never : (at : ℕ) (i : Instruction) (s : Cpu) → T (not (isIllegal i)) → Never (execute at i s ended)
 unfolding execute byteAtPC

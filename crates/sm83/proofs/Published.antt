@@ -19,8 +19,9 @@ use Rattle.sm83.proofs.Choices.{if-so, if-not}
 use Rattle.sm83.proofs.FlagLaws.{Obeys}
 use Rattle.sm83.proofs.Cycles.{jumps}
 use Rattle.sm83.proofs.Columns.{Begins, ahead, isRefused}
-use Rattle.sm83.proofs.ExecuteColumns.{isIllegal, executed}
-use Rattle.sm83.proofs.Agreement.{bytes-agree, illegal-agree, cycles-agree, flags-agree}
+use Rattle.sm83.proofs.ExecuteColumns.{executed}
+use Rattle.sm83.proofs.Illegal.{isIllegal, illegal-is, illegal-bytes}
+use Rattle.sm83.proofs.Agreement.{bytes-agree, cycles-agree, flags-agree}
 use Rattle.sm83.proofs.StepRuns.{Runs, afterFetch, starts, stepped, accepted-step, atFetch, opcode, second, rest, step-runs, step-columns}
 use Rattle.sm83.proofs.Lengths.{ahead-is, ahead-next, Relative, Calling, pushed, relative-lands, calling-pushes}
 
@@ -57,16 +58,6 @@ pub record Agreed {W : Type 0} (b : Bus W) (s : Cpu) (m : W) (r : Ran W Ended) :
   pub refused : r .value .outcome ≡ Refused IllegalOpcode → illegal-at b s m ≡ true
   pub refuses : illegal-at b s m ≡ true → r .value ≡ record { outcome = Refused IllegalOpcode; cpu = setPC (pc s) (fetched (enabled s)) }
 
-illegal-is : (i : Instruction) → T (isIllegal i) → i ≡ ILLEGAL
-illegal-is (does w) h = absurd h
-illegal-is (goes j) h = absurd h
-illegal-is CB-prefix h = absurd h
-illegal-is HALT h = absurd h
-illegal-is STOP h = absurd h
-illegal-is EI h = absurd h
-illegal-is LD-B-B h = absurd h
-illegal-is ILLEGAL h = refl
-
 passes : {t : Bool} → t ≡ true → T t
 passes e = subst T (sym e) tt
 
@@ -85,7 +76,7 @@ module _ {W : Type 0} (b : Bus W) (s : Cpu) (m : W) (byte : opcode b s m < 256) 
   start = fetched (enabled s)
 
   illegal-same : isIllegal i ≡ illegal-at b s m
-  illegal-same = illegal-agree (opcode b s m) byte
+  illegal-same = illegal-bytes (opcode b s m) byte
 
   further : ahead (lengthOf i) (pc s) ≡ end-at b s m
   further = ahead-is (operands i) (pc s) ∙ ap (λ (k : ℕ). (pc s + k) % 65536) (bytes-agree (opcode b s m) byte)
@@ -115,7 +106,7 @@ module _ {W : Type 0} (b : Bus W) (s : Cpu) (m : W) (byte : opcode b s m < 256) 
 
   refuse : illegal-at b s m ≡ true → rest b s m .value ≡ record { outcome = Refused IllegalOpcode; cpu = setPC (pc s) start }
   unfolding executing runOn
-  refuse e = ap (λ (x : Instruction). executed b (pc s) x start fetchedMemory .value) (illegal-is i (passes (illegal-same ∙ e)))
+  refuse e = ap (λ (x : Instruction). executed b (pc s) x start fetchedMemory .value) (illegal-is i (illegal-same ∙ e))
 
   agreed : second b s m < 256 → Agreed b s m (logged (Read Fetch (pc s)) (rest b s m))
   agreed after =

@@ -22,9 +22,7 @@ use Rattle.sm83.specs.Execution.{execute}
 use Rattle.sm83.specs.Step.{isAsleep, enabled, fetched, instruction, Ended, ended, Admission, accepted, refusedAs, admission, admitted, stepOn}
 use Rattle.sm83.specs.Numbers.{numberOf}
 use Rattle.sm83.specs.Run.{notRun, admittedRun, runFor}
-use Rattle.sm83.proofs.Bytes.{at-each}
 use Rattle.sm83.proofs.Compose.{after}
-use Rattle.sm83.proofs.NeverRefuses.{isIllegal}
 use Rattle.sm83.proofs.PlainCourse.{idles, rousedFrom, woke-plain, passed-plain, same-ime}
 use Rattle.sm83.proofs.Course.{Woke, was-awake, woke-dmg, woke-cgb, Passed, endedAs, wakes, passes, woke-pc, woke-awake}
 
@@ -114,22 +112,3 @@ module _ (s : Cpu) (m : List ℕ) where
   pub refusal-3-plain : length m ≡ 65536 → flags s % 16 ≡ 0 → s .stopped ≡ false → s .hdma ≡ false → (T (isAsleep (s .halt)) → isInterrupt (pending m) ≡ true) → (T (s .ime) → isInterrupt (pending m) ≡ false) → decode (byteAt m (pc s)) ≡ ILLEGAL → stepOn plain s m ≡ record { value = record { outcome = Refused IllegalOpcode; cpu = leftBy3 s }; memory = m; accesses = idles s ++ Read Fetch (pc s) ∷ [] }
   refusal-3-plain z f r h wake calm e =
       refusal-3 plain s m z f r h (woke-plain s m wake) (passed-plain m (rousedFrom s) (s .ime) (same-ime s (isAsleep (s .halt))) calm) e
-
--- "opcode D3 DB DD E3 E4 EB EC ED F4 FC FD": these bytes and no other
-abbrev pub elevenIllegal : ℕ → Bool
-elevenIllegal b = eqb b 0xd3 || (eqb b 0xdb || (eqb b 0xdd || (eqb b 0xe3 || (eqb b 0xe4 || (eqb b 0xeb || (eqb b 0xec || (eqb b 0xed || (eqb b 0xf4 || (eqb b 0xfc || eqb b 0xfd)))))))))
-
-same : Bool → Bool → Bool
-same true x = x
-same false x = not x
-
-same-is : (x y : Bool) → T (same x y) → x ≡ y
-unfolding same
-same-is true true t = refl
-same-is true false t = absurd t
-same-is false true t = absurd t
-same-is false false t = refl
-
-pub illegal-bytes : (b : ℕ) → b < 256 → isIllegal (decode b) ≡ elevenIllegal b
-unfolding decode same
-illegal-bytes b h = same-is (isIllegal (decode b)) (elevenIllegal b) (at-each (λ x. same (isIllegal (decode x)) (elevenIllegal x)) 256 tt b h)

@@ -23,7 +23,8 @@ use Rattle.sm83.specs.Numbers.{numberOf}
 use Rattle.sm83.specs.Run.{runFor}
 use Rattle.sm83.specs.declared.outcome.LastOutcome.the-variants.{Last}
 use Rattle.sm83.proofs.Course.{Woke, Passed, Course, point1, point2, point3, point4, points5to7, course, woke-pc}
-use Rattle.sm83.proofs.NeverRefuses.{refuses, never-run, isIllegal, execute-never}
+use Rattle.sm83.proofs.NeverRefuses.{refuses, never-run, execute-never}
+use Rattle.sm83.proofs.Illegal.{isIllegal, illegal-is}
 use Rattle.sm83.proofs.Refusals.{pc-enabled, accepts}
 use Rattle.sm83.proofs.PlainCourse.{woke-same, passed-same}
 use Rattle.sm83.proofs.Runs.{LastSays, run-keeps}
@@ -34,16 +35,6 @@ pub data Why {W : Type 0} (b : Bus W) (s : Cpu) (m : W) : ℕ → Type 0 where
   wrong-length : b .size m ≢ 65536 → Why b s m 1
   low-bit-set : b .size m ≡ 65536 → flags s % 16 ≢ 0 → Why b s m 2
   illegal-opcode : b .size m ≡ 65536 → flags s % 16 ≡ 0 → s .stopped ≡ false → s .hdma ≡ false → {l : List Access} {t : Cpu} {w v : W} → Woke b s m l t w → Passed b t w v → decode (b .sees v (pc s)) ≡ ILLEGAL → Why b s m 3
-
-illegal-is : (i : Instruction) → isIllegal i ≡ true → i ≡ ILLEGAL
-illegal-is (does w) e = absurd (subst T (sym e) tt)
-illegal-is (goes j) e = absurd (subst T (sym e) tt)
-illegal-is CB-prefix e = absurd (subst T (sym e) tt)
-illegal-is HALT e = absurd (subst T (sym e) tt)
-illegal-is STOP e = absurd (subst T (sym e) tt)
-illegal-is EI e = absurd (subst T (sym e) tt)
-illegal-is LD-B-B e = absurd (subst T (sym e) tt)
-illegal-is ILLEGAL e = refl
 
 -- the number of a refusal, or 0
 abbrev refusalNumber : Outcome → ℕ

@@ -1,13 +1,14 @@
 -- INC and DEC, and BIT, RES and SET: what they do to a byte and its flags, each a small law; the bits by one computed test over every byte and place.
 use mathlib.Core.Path.{_≡_, refl, ap, sym, subst, _∙_}
 use mathlib.Core.Bool.{Bool, true, false, _&&_}
-use Prim.Native.Nat.{ℕ, suc, _+_, _*_, _/_, _%_, _^_, _<_}
+use Prim.Native.Nat.{ℕ, suc, _+_, _-_, _*_, _/_, _%_, _^_, _<_}
 use native.Mathlib.Omega.{arith}
 use lib.Dec.{eqb, T, eqb→eq}
+use lib.Bits.{bitAnd, bitOr}
 use Rattle.sm83.specs.Basics.{bit, bitAt, cleared, raised}
 use Rattle.sm83.specs.Arithmetic.{flagZ, flagH, flagC, isZero, increment, decrement, bitTest}
 use Rattle.sm83.proofs.Flags.{read-Z, read-C}
-use Rattle.sm83.proofs.Tested.{and-left, and-right, below, at}
+use Rattle.sm83.proofs.Tested.{and-left, and-right, below, at, agree-at-both}
 use Rattle.sm83.proofs.Carries.{by-H}
 
 -- a test over two numbers below their bounds
@@ -75,3 +76,10 @@ RES-only n x hn hx = as-facts n 0 x (cleared n x) (both-below (λ n x. only-bit 
 
 pub SET-only : (n x : ℕ) → n < 8 → x < 256 → OnlyBit n 1 x (raised n x)
 SET-only n x hn hx = as-facts n 1 x (raised n x) (both-below (λ n x. only-bit n 1 x (raised n x)) 8 256 raised-tested n x hn hx)
+
+-- and that is what a mask of one bit does to a byte
+pub and-clears : (n x : ℕ) → n < 8 → x < 256 → bitAnd x (2 ^ 8 - 1 - 1 * 2 ^ n % 2 ^ 8) ≡ cleared n x
+and-clears = agree-at-both _ _ 8 256 refl
+
+pub or-raises : (n x : ℕ) → n < 8 → x < 256 → bitOr x (1 * 2 ^ n % 2 ^ 8) ≡ raised n x
+or-raises = agree-at-both _ _ 8 256 refl

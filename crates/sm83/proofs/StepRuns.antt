@@ -16,7 +16,8 @@ use Rattle.sm83.proofs.Choices.{if-not, if-same}
 use Rattle.sm83.proofs.FlagColumns.{flagsOf}
 use Rattle.sm83.proofs.Cycles.{cyclesOf, jumps}
 use Rattle.sm83.proofs.Columns.{Columns}
-use Rattle.sm83.proofs.ExecuteColumns.{isIllegal, executed, execute-columns}
+use Rattle.sm83.proofs.ExecuteColumns.{executed, execute-columns}
+use Rattle.sm83.proofs.Illegal.{isIllegal}
 
 -- "1. Stopped", "2. HDMA running", "3. Halted" and "4. IME set and an interrupt pending" do not apply. The EI latch may be set or clear, HaltBug may be about to end.
 pub record Runs {W : Type 0} (b : Bus W) (s : Cpu) (m : W) : Type 0 where

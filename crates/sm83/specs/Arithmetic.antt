@@ -6,7 +6,7 @@ use lib.Bits.{bitAnd, bitOr, bitXor}
 use Rattle.sm83.specs.Basics.{if_then_else_, bit, bitAt}
 use Rattle.sm83.specs.Instruction.{Cond, cNZ, cZ, cNC, cC, Alu, ADD, ADC, SUB, SBC, AND, XOR, OR, CP, Acc, RLCA, RRCA, RLA, RRA, DAA, CPL, SCF, CCF, Shift, RLC, RRC, RL, RR, SLA, SRA, SWAP, SRL}
 
--- F is Z N H C and four bits 0
+-- "one byte whose upper half is used": Z N H C, and four bits 0
 abbrev pub flagByte : Bool → Bool → Bool → Bool → ℕ
 flagByte z n h c = bit z * 128 + bit n * 64 + bit h * 32 + bit c * 16
 
@@ -22,9 +22,11 @@ flagH f = eqb (f / 32 % 2) 1
 abbrev pub flagC : ℕ → Bool
 flagC f = eqb (f / 16 % 2) 1
 
+-- the carry that ADC, SBC, RL, RR, RLA and RRA take in
 abbrev pub carry : ℕ → ℕ
 carry f = bit (flagC f)
 
+-- cc of the reference
 abbrev pub holds : Cond → ℕ → Bool
 holds cNZ f = not (flagZ f)
 holds cZ f = flagZ f
@@ -36,6 +38,7 @@ pub record Result : Type 0 where
   pub value : ℕ
   pub flags : ℕ
 
+-- "Set if result is 0"
 abbrev pub isZero : ℕ → Bool
 isZero v = eqb v 0
 
@@ -51,9 +54,11 @@ difference a x i =
     let v = (256 + a - (x + i)) % 256 in
     record { value = v; flags = flagByte (isZero v) true (ltb (a % 16) (x % 16 + i)) (ltb a (x + i)) }
 
+-- AND sets H, XOR and OR clear it; N and C are cleared
 abbrev pub logical : ℕ → Bool → Result
 logical v h = record { value = v; flags = flagByte (isZero v) false h false }
 
+-- the reference's 8-bit arithmetic and bitwise logic on A; CP is SUB that keeps A
 abbrev pub aluOp : Alu → ℕ → ℕ → ℕ → Result
 aluOp ADD a x f = sum a x 0
 aluOp ADC a x f = sum a x (carry f)
@@ -64,7 +69,7 @@ aluOp XOR a x f = logical (bitXor a x) false
 aluOp OR a x f = logical (bitOr a x) false
 aluOp CP a x f = record { value = a; flags = difference a x 0 .flags }
 
--- C is kept
+-- INC r8 and DEC r8: the flags of a sum and of a difference, but C is kept
 abbrev pub increment : ℕ → ℕ → Result
 increment x f = let v = (x + 1) % 256 in record { value = v; flags = flagByte (isZero v) false (eqb (x % 16) 15) (flagC f) }
 
@@ -75,6 +80,7 @@ decrement x f = let v = (x + 255) % 256 in record { value = v; flags = flagByte 
 abbrev pub shifted : ℕ → ℕ → Result
 shifted v out = record { value = v; flags = flagByte (isZero v) false false (eqb out 1) }
 
+-- the reference's bit shift instructions
 abbrev pub shiftOp : Shift → ℕ → ℕ → Result
 shiftOp RLC x f = shifted (x * 2 % 256 + x / 128) (x / 128)
 shiftOp RRC x f = shifted (x / 2 + x % 2 * 128) (x % 2)
@@ -85,7 +91,7 @@ shiftOp SRA x f = shifted (x / 2 + x / 128 * 128) (x % 2)
 shiftOp SWAP x f = shifted (x / 16 + x % 16 * 16) 0
 shiftOp SRL x f = shifted (x / 2) (x % 2)
 
--- on A alone Z is cleared
+-- RLCA, RRCA, RLA, RRA: as after CB, but Z is cleared
 abbrev pub withoutZ : Result → Result
 withoutZ r = record { value = r .value; flags = flagByte false false false (flagC (r .flags)) }
 
@@ -98,6 +104,7 @@ daa a f =
     let v : ℕ = if flagN f then (256 + a - correction) % 256 else (a + correction) % 256 in
     record { value = v; flags = flagByte (isZero v) (flagN f) false high }
 
+-- the instructions on A and F alone
 abbrev pub accOp : Acc → ℕ → ℕ → Result
 accOp RLCA a f = withoutZ (shiftOp RLC a f)
 accOp RRCA a f = withoutZ (shiftOp RRC a f)

@@ -3,6 +3,7 @@ use mathlib.Core.Bool.{Bool, true, false}
 use Prim.Native.Nat.{ℕ, _+_, _*_, _/_, _%_, _^_, _-_}
 use lib.Dec.{ltb}
 
+-- a choice
 infix 5 if_then_else_
 abbrev pub if_then_else_ {ℓ} : {A : Type ℓ} → Bool → A → A → A
 if_then_else_ true yes-branch no-branch = yes-branch
@@ -13,7 +14,7 @@ abbrev pub bit : Bool → ℕ
 bit true = 1
 bit false = 0
 
--- bit n of a number, and the number with bit n cleared or set
+-- bit n of a number; the number with bit n cleared (RES, and "clears that bit alone"), or set (SET)
 abbrev pub bitAt : ℕ → ℕ → ℕ
 bitAt n x = x / 2 ^ n % 2
 
@@ -23,7 +24,7 @@ cleared n x = x - bitAt n x * 2 ^ n
 abbrev pub raised : ℕ → ℕ → ℕ
 raised n x = x + (1 - bitAt n x) * 2 ^ n
 
--- two bytes as a word, the high byte first, and a word's two bytes
+-- two bytes as a word, and a word's two bytes: AF, BC, DE, HL, and the n16 of the reference, which stands low byte first in memory
 abbrev pub word : ℕ → ℕ → ℕ
 word high low = high * 256 + low
 
@@ -44,6 +45,6 @@ back a = (a + 65535) % 65536
 abbrev pub signed : ℕ → ℕ
 signed e = if ltb e 128 then e else e + 0xff00
 
--- a signed byte added to an address
+-- e8 of the reference added to a word: "A JR target counts from the byte after the JR, modulo 65,536"
 abbrev pub offset : ℕ → ℕ → ℕ
 offset a e = (a + signed e) % 65536

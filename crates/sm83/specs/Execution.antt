@@ -35,7 +35,7 @@ give a = λ s k. k a s
 abbrev pub nothing : {R : Type 0} → Does R (Unit {0})
 nothing = give tt
 
--- The state.
+-- The state: read it, change it, read a register, change the registers.
 
 abbrev pub state : {R : Type 0} → Does R Cpu
 state = λ s k. k s s
@@ -67,7 +67,7 @@ regPC = reg (λ r. r .pc .0)
 abbrev pub regHL : {R : Type 0} → Does R ℕ
 regHL = reg pairHL
 
--- Memory.
+-- Memory: a read, a write, an idle access ("the crate's `read(0)`"), a peek.
 
 abbrev pub load : {R : Type 0} → Kind → ℕ → Does R ℕ
 load c a = λ s k. read c a (λ v. k v s)
@@ -85,19 +85,21 @@ asked = λ s k. peek (λ i. k i s)
 unfoldable pub byteAtPC : {R : Type 0} → Kind → Does R ℕ
 byteAtPC c = do p ← regPC; v ← load c p; setReg (writePC (next p)); give v
 
+-- n8, a8 and e8 of the reference: the byte after the opcode
 unfoldable pub imm8 : {R : Type 0} → Does R ℕ
 unfolding byteAtPC
 imm8 = byteAtPC Operand
 
+-- n16 and a16: two bytes, the low one first
 unfoldable pub imm16 : {R : Type 0} → Does R ℕ
 unfolding imm8
 imm16 = do low ← imm8; high ← imm8; give (word high low)
 
--- a page-FF address
+-- "LDH": an address from FF00 on
 abbrev pub high : ℕ → ℕ
 high n = 0xff00 + n
 
--- Operands.
+-- Operands: r8 of the reference, [HL] being the byte at HL.
 
 unfoldable pub get8 : {R : Type 0} → Reg8 → Does R ℕ
 get8 rB = reg (λ r. r .b)
@@ -119,6 +121,7 @@ put8 rL v = setReg (λ r. putHL (r .h) v r)
 put8 [HL] v = do a ← regHL; store Operand a v
 put8 rA v = setReg (writeA v)
 
+-- r16
 unfoldable pub get16 : Reg16 → CpuRegisters → ℕ
 get16 rBC r = pairBC r
 get16 rDE r = pairDE r
@@ -131,6 +134,7 @@ put16 rDE w r = writeDE w r
 put16 rHL w r = writeHL w r
 put16 rSP w r = writeSP w r
 
+-- what PUSH and POP move; "the low four bits of F are always 0"
 unfoldable pub getStacked : Stacked → CpuRegisters → ℕ
 getStacked pBC r = pairBC r
 getStacked pDE r = pairDE r
@@ -143,7 +147,7 @@ putStacked pDE w r = writeDE w r
 putStacked pHL w r = writeHL w r
 putStacked pAF w r = writeAF w r
 
--- where a pointer points, and the registers after its use
+-- [r16]: where it points, and the registers after its use ([HLI] and [HLD] of the reference move HL)
 unfoldable pub pointed : Pointer → CpuRegisters → ℕ
 pointed [BC] r = pairBC r
 pointed [DE] r = pairDE r
@@ -156,7 +160,7 @@ moved [DE] r = r
 moved [HL+] r = writeHL (next (pairHL r)) r
 moved [HL-] r = writeHL (back (pairHL r)) r
 
--- The stack.
+-- The stack: SP less 1 and the high byte, SP less 1 and the low byte; and back.
 
 unfoldable pub push : {R : Type 0} → ℕ → Does R (Unit {0})
 push w = do p ← regSP; store Stack (back p) (highByte w); store Stack (back (back p)) (lowByte w); setReg (writeSP (back (back p)))
@@ -214,6 +218,7 @@ prefixed (SET-u3-r8 n to) = do x ← get8 to; put8 to (raised n x)
 abbrev pub normal : {R : Type 0} → Does R Outcome
 normal = give Normal
 
+-- PC becomes t
 abbrev pub goTo : {R : Type 0} → ℕ → Does R (Unit {0})
 goTo t = setReg (writePC t)
 
@@ -221,12 +226,14 @@ goTo t = setReg (writePC t)
 abbrev pub goFrom : {R : Type 0} → ℕ → ℕ → Does R Outcome
 goFrom at t = do goTo t; give (if eqb t at then InfiniteLoop else Normal)
 
+-- CALL and RST: an idle access, PC pushed, PC becomes t; RET and RETI: PC popped, an idle access
 abbrev pub call : {R : Type 0} → ℕ → Does R (Unit {0})
 call t = do wait; p ← regPC; push p; goTo t
 
 abbrev pub return : {R : Type 0} → Does R (Unit {0})
 return = do t ← pop; wait; goTo t
 
+-- "cc": only where the condition holds
 abbrev pub onlyIf : {R : Type 0} → Cond → Does R (Unit {0}) → Does R Outcome
 onlyIf c p = do f ← regF; if holds c f then (do p; normal) else normal
 

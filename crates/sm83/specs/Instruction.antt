@@ -4,7 +4,7 @@ use mathlib.Core.List.{List, [], _∷_}
 use Prim.Native.Nat.{ℕ, suc, _+_, _*_, _/_, _%_}
 use lib.ListN.{getD}
 
--- r8, in the order of the low three bits
+-- r8 of the reference, in the order of the byte's low three bits
 pub data Reg8 : Type 0 where
   rB rC rD rE rH rL [HL] rA : Reg8
 

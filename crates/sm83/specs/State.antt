@@ -7,6 +7,7 @@ use Rattle.sm83.specs.declared.state.Cpu.{Cpu}
 use Rattle.sm83.specs.declared.state.HaltMode.{HaltMode}
 use Rattle.sm83.specs.Basics.{word, highByte, lowByte}
 
+-- "an address and a count of M-cycles are never mixed up"
 abbrev pub addr : ℕ → Addr
 addr a = record { 0 = a }
 
@@ -16,6 +17,7 @@ abbrev pub registersOf : ℕ → ℕ → ℕ → ℕ → ℕ → ℕ → ℕ →
 registersOf a f b c d e h l sp pc =
     record { a = a; b = b; c = c; sp = addr sp; f = f; d = d; e = e; h = h; l = l; pc = addr pc }
 
+-- "AF, BC, DE, HL"
 abbrev pub pairAF : CpuRegisters → ℕ
 pairAF r = word (r .a) (r .f)
 
@@ -28,6 +30,7 @@ pairDE r = word (r .d) (r .e)
 abbrev pub pairHL : CpuRegisters → ℕ
 pairHL r = word (r .h) (r .l)
 
+-- one register changed
 abbrev pub writeA : ℕ → CpuRegisters → CpuRegisters
 writeA v r = record { a = v; b = r .b; c = r .c; sp = r .sp; f = r .f; d = r .d; e = r .e; h = r .h; l = r .l; pc = r .pc }
 

@@ -17,6 +17,7 @@ use Rattle.sm83.specs.State.{pc, sp, flags, setPC, setSP, setIme, setLat
 use Rattle.sm83.specs.Instruction.{decode}
 use Rattle.sm83.specs.Execution.{Does, _>>=_, _>>_, give, state, change, load, store, wait, asked, execute, executing}
 
+-- "Halted (HaltRunInterrupt or HaltNoRunInterrupt)"
 abbrev pub isAsleep : HaltMode → Bool
 isAsleep NotHalting = false
 isAsleep HaltRunInterrupt = true
@@ -33,6 +34,7 @@ isBug HaltBug = true
 abbrev pub vector : ℕ → ℕ
 vector i = getD (0x40 ∷ 0x48 ∷ 0x50 ∷ 0x58 ∷ 0x60 ∷ []) i 0
 
+-- "write PC's high byte, peek again and take"
 abbrev pub storeAndTake : {R : Type 0} → ℕ → ℕ → Does R ℕ
 storeAndTake a v = λ s k. writeAndTake a v (λ i. k i s)
 

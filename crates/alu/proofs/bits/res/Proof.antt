@@ -1,6 +1,6 @@
 -- Shows that the mask clears the bit.
 use borrow.Author.Needs.{needs}
-use Rattle.alu.proofs.SingleBits.{and-clears}
+use Rattle.sm83.proofs.SingleBits.{and-clears}
 use Rattle.alu.proofs.bits.res.Statement.{statement}
 use Rattle.alu.proofs.bits.res.Tie as tie
 

@@ -1,6 +1,6 @@
 -- Shows that the mask sets the bit.
 use borrow.Author.Needs.{needs}
-use Rattle.alu.proofs.SingleBits.{or-raises}
+use Rattle.sm83.proofs.SingleBits.{or-raises}
 use Rattle.alu.proofs.bits.set.Statement.{statement}
 use Rattle.alu.proofs.bits.set.Tie as tie
 

@@ -13,4 +13,8 @@ unfolding daa
 added c = simp (c .adjusted2 .ensures, c .before .before .weight2 .ensures .is, c .before .before .before .weight .ensures .is, c .before .if1 .left)
 
 pub daa-spec : {M : Type 1} → statement M
-daa-spec = tie.close (tie.spec (λ c κs. search needs) (λ c. search needs) (λ c κs. search needs) (λ c. search needs) (λ c. search needs) (λ c. search needs) (λ c. search needs) (λ c κs. search needs) (λ c. search needs) (λ c κs. search needs) subtracted added)
+daa-spec =
+    tie.close
+    (tie.spec
+    (λ c κs. search needs) (λ c. search needs) (λ c κs. search needs) (λ c. search needs) (λ c. search needs) (λ c. search needs)
+    (λ c. search needs) (λ c κs. search needs) (λ c. search needs) (λ c κs. search needs) subtracted added)

@@ -7,4 +7,8 @@ returns : tie.Need-returns
 returns c = simp (c .flagged .ensures, c .before .bit-of .ensures .is)
 
 pub sum-spec : {M : Type 1} → statement M
-sum-spec = tie.close (tie.spec (λ c κs. search needs) (λ c. search needs) (λ c. search needs) (λ c. search needs) (λ c. search needs) (λ c. search needs) (λ c. search needs) (λ c κs. search needs) returns)
+sum-spec =
+    tie.close
+    (tie.spec
+    (λ c κs. search needs) (λ c. search needs) (λ c. search needs) (λ c. search needs) (λ c. search needs) (λ c. search needs)
+    (λ c. search needs) (λ c κs. search needs) returns)

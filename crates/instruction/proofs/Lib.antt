@@ -1,0 +1,3 @@
+-- What is proved of the tables and their entries.
+pub mod Matched
+pub mod Sound

@@ -1,0 +1,69 @@
+-- What an entry of the code's two tables stands for, and what the tables have to be.
+use mathlib.Core.Path.{_≡_}
+use mathlib.Core.List.{List, [], _∷_}
+use Prim.Native.Nat.{ℕ, _-_, _*_, _/_, _%_, _<_}
+use lib.Dec.{ltb}
+use lib.ListN.{getD}
+use Rattle.sm83.specs.Basics.{if_then_else_}
+use Rattle.sm83.specs.Instruction.{decode, decodeCB}
+use Rattle.instruction.specs.declared.operand.OperandType.{OperandType}
+use Rattle.instruction.specs.declared.operand.OperandType.the-variants as ot
+use Rattle.instruction.specs.declared.condition.Condition.{Condition}
+use Rattle.instruction.specs.declared.condition.Condition.the-variants as cn
+use Rattle.instruction.specs.declared.opcode.Opcode.{Opcode}
+use Rattle.instruction.specs.declared.opcode.Opcode.the-variants as op
+use Rattle.instruction.specs.declared.instruction.Instruction.{Instruction}
+use Rattle.instruction.specs.Row.{rowOf, prefixedRow}
+
+-- The last of each list stands for every number past it.
+
+abbrev pub operands : List OperandType
+operands =
+    ot.Implied ∷ ot.RegA ∷ ot.RegB ∷ ot.RegC ∷ ot.RegD ∷ ot.RegE ∷ ot.RegH ∷ ot.RegL ∷ ot.AddrHL ∷ ot.AddrHLDec ∷ ot.AddrHLInc ∷
+    ot.AddrBC ∷ ot.AddrDE ∷ ot.RegAF ∷ ot.RegBC ∷ ot.RegDE ∷ ot.RegHL ∷ ot.RegSP ∷ ot.Imm8 ∷ ot.Imm8Signed ∷ ot.Imm16 ∷ ot.HighAddr8 ∷
+    ot.HighAddrC ∷ ot.Addr16 ∷ []
+
+abbrev pub operandAt : ℕ → OperandType
+operandAt n = getD operands n ot.Addr16Val16
+
+abbrev pub conditions : List Condition
+conditions = cn.Unconditional ∷ cn.NZ ∷ cn.Z ∷ cn.NC ∷ []
+
+abbrev pub conditionAt : ℕ → Condition
+conditionAt n = getD conditions n cn.C
+
+abbrev pub opcodesUpToEi : Condition → ℕ → List Opcode
+opcodesUpToEi c b =
+    op.Nop ∷ op.Stop ∷ op.Ld ∷ op.LdSPHL ∷ op.LdHLSPSigned8 ∷ op.LdBB ∷ op.Push ∷ op.Pop ∷ op.Inc ∷ op.Inc16 ∷ op.Dec ∷
+    op.Dec16 ∷ op.Add ∷ op.Add16 ∷ op.AddSPSigned8 ∷ op.Adc ∷ op.Cp ∷ op.Sub ∷ op.Sbc ∷ op.And ∷ op.Xor ∷ op.Or ∷
+    (op.Jp c) ∷ op.JpHL ∷ (op.Jr c) ∷ (op.Call c) ∷ (op.Ret c) ∷ op.Reti ∷ (op.Rst (b / 8 % 8 * 8)) ∷ op.Di ∷ []
+
+abbrev pub opcodeUpToEi : ℕ → Condition → ℕ → Opcode
+opcodeUpToEi n c b = getD (opcodesUpToEi c b) n op.Ei
+
+abbrev pub opcodesFromCcf : ℕ → List Opcode
+opcodesFromCcf b =
+    op.Ccf ∷ op.Scf ∷ op.Daa ∷ op.Cpl ∷ op.Rlca ∷ op.Rla ∷ op.Rrca ∷ op.Rra ∷ op.Prefix ∷ op.Rlc ∷ op.Rrc ∷
+    op.Rl ∷ op.Rr ∷ op.Sla ∷ op.Sra ∷ op.Swap ∷ op.Srl ∷ (op.Bit (b / 8 % 8)) ∷ (op.Res (b / 8 % 8)) ∷ (op.Set (b / 8 % 8)) ∷ op.Illegal ∷ []
+
+abbrev pub opcodeFromCcf : ℕ → ℕ → Opcode
+opcodeFromCcf n b = getD (opcodesFromCcf b) n op.Halt
+
+abbrev pub opcodeAt : ℕ → Condition → ℕ → Opcode
+opcodeAt n c b = if ltb n 31 then opcodeUpToEi n c b else opcodeFromCcf (n - 31) b
+
+-- an entry, at a byte: six bits of opcode, three of condition, five of destination, five of source
+unfoldable pub rowAt : ℕ → ℕ → Instruction
+rowAt n b =
+    record {
+      opcode = opcodeAt (n / 8192 % 64) (conditionAt (n / 1024 % 8)) b;
+      dest = operandAt (n / 32 % 32);
+      src = operandAt (n % 32);
+    }
+
+-- tables whose entry at each byte stands for the instruction that the definition decodes from it
+unfoldable pub Plain : List ℕ → Type 0
+Plain t = (b : ℕ) → b < 256 → rowAt (getD t b 0) b ≡ rowOf (decode b)
+
+unfoldable pub Prefixed : List ℕ → Type 0
+Prefixed t = (b : ℕ) → b < 256 → rowAt (getD t b 0) b ≡ prefixedRow (decodeCB b)

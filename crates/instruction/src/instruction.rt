@@ -1,0 +1,46 @@
+// An instruction of 001, from its byte and a lent table. Its address, which the Rust keeps in it, stands beside it here.
+ghost use mathlib.Core.Path.{_≡_};
+ghost use Rattle.sm83.specs.Instruction.{decode, decodeCB};
+ghost use Rattle.instruction.specs.Row.{rowOf, prefixedRow};
+ghost use Rattle.instruction.specs.Entry.{rowAt, Plain, Prefixed};
+use crate::condition::condition_of;
+use crate::opcode::Opcode;
+use crate::opcode::opcode_of;
+use crate::operand::OperandType;
+use crate::operand::operand_of;
+
+pub struct Instruction {
+    pub opcode: Opcode,
+    pub src: OperandType,
+    pub dest: OperandType,
+}
+
+impl Instruction {
+    pub fn from_byte(table: &[u32; 256], byte: u8) -> Instruction
+        requires { ⌜ Plain (now table) ⌝ }
+        ensures { λ r. ⌜ r ≡ rowOf (decode byte) ⌝ }
+    {
+        Instruction::from_entry(table[byte as usize], byte)
+    }
+
+    pub fn from_prefix(table: &[u32; 256], byte: u8) -> Instruction
+        requires { ⌜ Prefixed (now table) ⌝ }
+        ensures { λ r. ⌜ r ≡ prefixedRow (decodeCB byte) ⌝ }
+    {
+        Instruction::from_entry(table[byte as usize], byte)
+    }
+
+    fn from_entry(entry: u32, byte: u8) -> Instruction
+        ensures { λ r. ⌜ r ≡ rowAt entry byte ⌝ }
+    {
+        let condition = condition_of((entry / 1024 % 8) as u8);
+        let opcode = opcode_of((entry / 8192 % 64) as u8, condition, byte);
+        let dest = operand_of((entry / 32 % 32) as u8);
+        let src = operand_of((entry % 32) as u8);
+        Instruction {
+            opcode: opcode,
+            src: src,
+            dest: dest,
+        }
+    }
+}

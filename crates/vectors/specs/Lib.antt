@@ -1,0 +1,22 @@
+-- Plain memory by its bytes that matter, what a vector is and when the definition agrees with it; then the Rust's answers.
+pub mod Sparse
+pub mod Vector
+pub mod RunVector
+pub mod OnPlain
+pub mod Table
+pub mod Opcodes00
+pub mod Opcodes40
+pub mod Opcodes80
+pub mod OpcodesC0
+pub mod Prefixed00
+pub mod Prefixed40
+pub mod Prefixed80
+pub mod PrefixedC0
+pub mod BeforeFetch
+pub mod AfterFetch
+pub mod Runs
+pub mod PoweredOn
+pub mod OnA
+pub mod Alu
+pub mod Shifts
+pub mod Words
