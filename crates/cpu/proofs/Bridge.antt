@@ -15,7 +15,7 @@ use Rattle.sm83.proofs.Tested.{and-left, and-right, below, at}
 use Rattle.instruction.specs.Row.{rowOf, prefixedRow}
 use Rattle.memory.specs.declared.Port.{Port}
 use Rattle.memory.specs.World.{world, leads}
-use Rattle.cpu.specs.Mirror.{readOperand, writeOperand, compute, execRow}
+use Rattle.cpu.specs.Mirror.{execRow, mirroring}
 use Rattle.cpu.specs.Runnable.{runnable}
 use Rattle.sm83.proofs.Ranges.{Bytes}
 use Rattle.cpu.proofs.Small.{ByteRegisters}
@@ -36,7 +36,7 @@ unprefixed ILLEGAL = true
 
 module _ (m : List ℕ) (bytes : Bytes m) (at-pc : ℕ) (s : Cpu) (regs : ByteRegisters (s .registers)) (k : Outcome → Cpu → Ask Ended) (port : Port) where
   pub row-leads : (i : defined.Instruction) → T (unprefixed i) → leads (execRow (rowOf i) at-pc s k) (world port m) ≡ leads (execute at-pc i s k) (world port m)
-  unfolding executing execRow readOperand compute writeOperand leads
+  unfolding executing mirroring leads
   row-leads (does w) h = work-row m bytes at-pc s regs k w port
   row-leads (goes j) h = jump-row at-pc s k j (world port m)
   row-leads CB-prefix h = absurd h

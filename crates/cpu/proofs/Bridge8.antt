@@ -13,7 +13,7 @@ use Rattle.sm83.specs.Step.{Ended}
 use Rattle.instruction.specs.Row.{operand8}
 use Rattle.memory.specs.declared.Port.{Port}
 use Rattle.memory.specs.World.{world, leads, counted}
-use Rattle.cpu.specs.Mirror.{readOperand, writeOperand}
+use Rattle.cpu.specs.Mirror.{readOperand, writeOperand, mirroring}
 use Rattle.sm83.proofs.Ranges.{Bytes}
 use Rattle.cpu.proofs.Small.{ByteRegisters, kept}
 
@@ -23,7 +23,7 @@ on m port e = ap (λ (t : Ask Ended). leads t (world port m)) e
 
 module _ (m : List ℕ) (bytes : Bytes m) (s : Cpu) (regs : ByteRegisters (s .registers)) (k j : ℕ → Cpu → Ask Ended) (same : (v : ℕ) (port : Port) → v < 256 → leads (k v s) (world port m) ≡ leads (j v s) (world port m)) where
   pub reads : (r : Reg8) (port : Port) → leads (readOperand (operand8 r) s k) (world port m) ≡ leads (get8 r s j) (world port m)
-  unfolding leads readOperand get8
+  unfolding leads mirroring get8
   reads rB port = same (s .registers .b) port (regs .small-b)
   reads rC port = same (s .registers .c) port (regs .small-c)
   reads rD port = same (s .registers .d) port (regs .small-d)
@@ -34,7 +34,7 @@ module _ (m : List ℕ) (bytes : Bytes m) (s : Cpu) (regs : ByteRegisters (s .re
   reads rA port = same (s .registers .a) port (regs .small-a)
 
 writes-low : (r : Reg8) (v : ℕ) (s : Cpu) (k : Unit {0} → Cpu → Ask Ended) → writeOperand (operand8 r) v s k ≡ put8 r (lowByte v) s k
-unfolding writeOperand put8
+unfolding mirroring put8
 writes-low rB v s k = refl
 writes-low rC v s k = refl
 writes-low rD v s k = refl

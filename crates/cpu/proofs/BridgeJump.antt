@@ -15,9 +15,10 @@ use Rattle.sm83.specs.Step.{Ended}
 use Rattle.instruction.specs.Row.{condition, jumpRow}
 use Rattle.memory.specs.declared.Port.{Port}
 use Rattle.memory.specs.World.{World, world, leads}
-use Rattle.cpu.specs.Mirror.{checkCond, isUnconditional, Made, readOperand, writeOperand, compute, execRow}
+use Rattle.cpu.specs.Mirror.{checkCond, isUnconditional, Made, execRow, mirroring}
 
 same-test : (c : Cond) (f : ℕ) → checkCond (condition c) f ≡ holds c f
+unfolding mirroring
 same-test cNZ f = refl
 same-test cZ f = refl
 same-test cNC f = refl
@@ -25,6 +26,7 @@ same-test cC f = refl
 
 -- "InfiniteLoop (unconditional JP or JR ..)"
 never-sure : (c : Cond) → isUnconditional (condition c) ≡ false
+unfolding mirroring
 never-sure cNZ = refl
 never-sure cZ = refl
 never-sure cNC = refl
@@ -41,7 +43,7 @@ module _ (p q : Does Ended Made) (p' q' : Does Ended Outcome) (s : Cpu) (j : Mad
 
 module _ (at : ℕ) (s : Cpu) (k : Outcome → Cpu → Ask Ended) where
   pub jump-row : (j : Jump) (w : World) → leads (execRow (jumpRow j) at s k) w ≡ leads (execute at (goes j) s k) w
-  unfolding executing execRow readOperand compute writeOperand leads
+  unfolding executing mirroring leads
   jump-row JP-n16 w = refl
   jump-row JP-HL w = refl
   jump-row JR-e8 w = refl

@@ -17,7 +17,7 @@ use Rattle.sm83.specs.Step.{Ended}
 use Rattle.instruction.specs.Row.{operand8, shiftCode, prefixedRow}
 use Rattle.memory.specs.declared.Port.{Port}
 use Rattle.memory.specs.World.{world, leads}
-use Rattle.cpu.specs.Mirror.{readOperand, writeOperand, compute, execRow}
+use Rattle.cpu.specs.Mirror.{writeOperand, compute, execRow, mirroring}
 use Rattle.sm83.proofs.Ranged.{shift-sound, cleared-byte, raised-byte}
 use Rattle.sm83.proofs.Ranges.{Bytes}
 use Rattle.cpu.proofs.Small.{ByteRegisters, kept}
@@ -41,7 +41,7 @@ decoded-one-of-eight b = by-quarter (b / 64) (shift (b / 8 % 8)) (reg8 (b % 8)) 
 
 module _ (m : List ℕ) (bytes : Bytes m) (at : ℕ) (s : Cpu) (regs : ByteRegisters (s .registers)) (k : Outcome → Cpu → Ask Ended) where
   shift-rest : (o : Shift) (r : Reg8) (v : ℕ) → v < 256 → compute (shiftCode o) at v s (λ w t. writeOperand (operand8 r) (w .value) t (λ _ u. k (w .outcome) u)) ≡ into8 r (shiftOp o v (flags s)) s (λ _ t. k Normal t)
-  unfolding compute
+  unfolding mirroring
   shift-rest RLC r v h = written (shiftOp RLC) r v s _ h (shift-sound RLC v (flags s) h .0)
   shift-rest RRC r v h = written (shiftOp RRC) r v s _ h (shift-sound RRC v (flags s) h .0)
   shift-rest RL r v h = written (shiftOp RL) r v s _ h (shift-sound RL v (flags s) h .0)
@@ -52,7 +52,7 @@ module _ (m : List ℕ) (bytes : Bytes m) (at : ℕ) (s : Cpu) (regs : ByteRegis
   shift-rest SRL r v h = written (shiftOp SRL) r v s _ h (shift-sound SRL v (flags s) h .0)
 
   pub prefixed-row : (x : Prefixed) → OneOfEight x → (port : Port) → leads (execRow (prefixedRow x) at s k) (world port m) ≡ leads ((do prefixed x; normal) s k) (world port m)
-  unfolding executing execRow compute writeOperand
+  unfolding executing mirroring
   prefixed-row (SHIFT-r8 o r) eighth port = reads m bytes s regs _ _ (λ v port h. on m port (shift-rest o r v h)) r port
   prefixed-row (BIT-u3-r8 n r) eighth port = reads m bytes s regs _ _ (λ v port h. on m port (ap (λ (x : ℕ). k Normal (setF (bitTest n x (flags s)) s)) (kept h))) r port
   prefixed-row (RES-u3-r8 n r) eighth port = reads m bytes s regs _ _ (λ v port h. on m port (ap (λ (x : ℕ). writeOperand (operand8 r) (cleared n x) s (λ _ t. k Normal t)) (kept h) ∙ writes r (cleared n v) s _ (cleared-byte n v h))) r port

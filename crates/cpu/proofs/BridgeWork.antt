@@ -14,12 +14,12 @@ use Rattle.sm83.specs.Instruction.{Reg16, rBC, rDE, rHL, rSP, pBC, pDE, pHL, pA
 use Rattle.sm83.specs.Instruction.{Work, NOP, DI, LD-r8-r8, LD-r8-n8, LD-r16-n16, LD-[r16]-A, LD-A-[r16], LD-[n16]-A, LD-A-[n16], LDH-[n8]-A, LDH-A-[n8], LDH-[C]-A, LDH-A-[C], LD-[n16]-SP, LD-SP-HL, LD-HL-SP+e8, ADD-SP-e8, ALU-A-r8, ALU-A-n8, ACC, INC-r8, DEC-r8, INC-r16, DEC-r16, ADD-HL-r16, PUSH-r16, POP-r16}
 use Rattle.sm83.specs.Execution.{get16, put16, moved, intoA, execute, executing}
 use Rattle.sm83.specs.Step.{Ended}
-use Rattle.instruction.specs.declared.OperandType.{OperandType}
-use Rattle.instruction.specs.declared.Instruction.{Instruction}
+use Rattle.instruction.specs.declared.operand.OperandType.{OperandType}
+use Rattle.instruction.specs.declared.instruction.Instruction.{Instruction}
 use Rattle.instruction.specs.Row.{operand16, aluRow, workRow}
 use Rattle.memory.specs.declared.Port.{Port}
 use Rattle.memory.specs.World.{world, leads, counted}
-use Rattle.cpu.specs.Mirror.{readOperand, writeOperand, compute, execRow}
+use Rattle.cpu.specs.Mirror.{readOperand, writeOperand, compute, execRow, mirroring}
 use Rattle.sm83.proofs.Ranged.{alu-sound}
 use Rattle.sm83.proofs.Ranges.{Bytes}
 use Rattle.cpu.proofs.Small.{ByteRegisters, kept, signed-low}
@@ -28,14 +28,14 @@ use Rattle.cpu.proofs.Bridge8.{on, reads, writes, written}
 -- A pair of registers: read and written as the definition does.
 
 reads16 : (r : Reg16) (s : Cpu) (k : ℕ → Cpu → Ask Ended) → readOperand (operand16 r) s k ≡ k (get16 r (s .registers)) s
-unfolding readOperand get16
+unfolding mirroring get16
 reads16 rBC s k = refl
 reads16 rDE s k = refl
 reads16 rHL s k = refl
 reads16 rSP s k = refl
 
 writes16 : (r : Reg16) (w : ℕ) (s : Cpu) (k : Unit {0} → Cpu → Ask Ended) → writeOperand (operand16 r) w s k ≡ k tt (onRegisters (put16 r w) s)
-unfolding writeOperand put16
+unfolding mirroring put16
 writes16 rBC w s k = refl
 writes16 rDE w s k = refl
 writes16 rHL w s k = refl
@@ -54,7 +54,7 @@ into-A o v s k small-a small-v =
     ∙ ap (λ (y : ℕ). k Normal (onRegisters (writeA y) (setF (op v .flags) s))) (kept (alu-sound o (s .registers .a) v (s .registers .f) small-a small-v .0))
 
 alu-rest : (o : Alu) (src : OperandType) (at v : ℕ) (s : Cpu) (k : Outcome → Cpu → Ask Ended) → s .registers .a < 256 → v < 256 → rest (aluRow o src) at v s k ≡ intoA (aluOp o (s .registers .a) v (s .registers .f)) s (λ _ t. k Normal t)
-unfolding compute writeOperand
+unfolding mirroring
 alu-rest ADD src at v s k small-a small-v = into-A ADD v s k small-a small-v
 alu-rest ADC src at v s k small-a small-v = into-A ADC v s k small-a small-v
 alu-rest SUB src at v s k small-a small-v = into-A SUB v s k small-a small-v
@@ -66,7 +66,7 @@ alu-rest CP src at v s k small-a small-v = ap (λ (y : ℕ). k Normal (setF (dif
 
 -- the operand comes from where the row says, whichever operation it is
 alu-reads : (o : Alu) (src : OperandType) (at : ℕ) (s : Cpu) (k : Outcome → Cpu → Ask Ended) → execRow (aluRow o src) at s k ≡ readOperand src s (λ v t. rest (aluRow o src) at v t k)
-unfolding execRow
+unfolding mirroring
 alu-reads ADD src at s k = refl
 alu-reads ADC src at s k = refl
 alu-reads SUB src at s k = refl
@@ -82,7 +82,7 @@ module _ (m : List ℕ) (bytes : Bytes m) (at : ℕ) (s : Cpu) (regs : ByteRegis
   loaded a t = ap (λ (v : ℕ). k Normal (onRegisters (writeA v) t)) (kept (bytes a))
 
   pub work-row : (w : Work) (port : Port) → leads (execRow (workRow w) at s k) (world port m) ≡ leads (execute at (does w) s k) (world port m)
-  unfolding executing execRow readOperand compute writeOperand leads
+  unfolding executing mirroring leads
   work-row NOP port = refl
   work-row DI port = refl
   work-row (LD-r8-r8 to from) port = reads m bytes s regs _ _ (λ v port h. on m port (writes to v s _ h)) from port

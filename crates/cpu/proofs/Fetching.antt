@@ -15,7 +15,7 @@ use Rattle.sm83.specs.Instruction.{decode, decodeCB}
 use Rattle.sm83.specs.Execution.{Does, _>>_, byteAtPC, imm8, prefixed, normal, execute}
 use Rattle.sm83.specs.Step.{Ended, isBug, enabled, fetched, instruction}
 use Rattle.sm83.proofs.Ranges.{Bytes}
-use Rattle.instruction.specs.declared.Instruction.{Instruction}
+use Rattle.instruction.specs.declared.instruction.Instruction.{Instruction}
 use Rattle.instruction.specs.Row.{rowOf, prefixedRow}
 use Rattle.memory.specs.declared.Port.{Port}
 use Rattle.memory.specs.World.{world, leads, counted}

@@ -12,7 +12,7 @@ use Rattle.sm83.specs.Bus.{Ask, isInterrupt}
 use Rattle.sm83.specs.State.{setPC, setHalt}
 use Rattle.sm83.specs.Execution.{Does, _>>=_, _>>_, give, state, wait, asked}
 use Rattle.sm83.specs.Step.{Ended, isAsleep, isBug, instruction, awake, woken}
-use Rattle.instruction.specs.declared.Instruction.{Instruction}
+use Rattle.instruction.specs.declared.instruction.Instruction.{Instruction}
 use Rattle.memory.specs.declared.Port.{Port}
 use Rattle.memory.specs.World.{world, leads}
 use Rattle.cpu.specs.Mirror.{execRow}

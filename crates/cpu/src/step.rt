@@ -14,9 +14,9 @@ ghost use Rattle.cpu.specs.Stages.{unbugged, Fetches, dispatched, Wakes}
 use crate::exec::Executed;
 use crate::exec::exec_instruction;
 use crate::fetch::fetch_next_pc;
-use instruction::Instruction;
+use instruction::instruction::Instruction;
 use memory::Port;
-use memory::interrupts::peek;
+use memory::interrupts::peek_next_interrupt;
 use memory::interrupts::vector;
 use memory::interrupts::write_and_take;
 use sm83::addr::Addr;
@@ -213,7 +213,7 @@ fn is_called(ime: bool, mem: &mut [u8]) -> bool
     ensures { λ r. ⌜ (r ≡ (ime && isInterrupt (pending (now (mem .entry))))) × (now (mem .exit) ≡ now (mem .entry)) × (length (now (mem .exit)) ≡ 65536) ⌝ }
 {
     if ime {
-        let interrupt = peek(mem);
+        let interrupt = peek_next_interrupt(mem);
         interrupt < 5
     } else {
         false
@@ -250,7 +250,7 @@ fn wake(cpu: Cpu, port: Port, mem: &mut [u8]) -> Woken
     let asleep = is_asleep(halt);
     if asleep {
         let p = memory::idle(port, mem);
-        let interrupt = peek(mem);
+        let interrupt = peek_next_interrupt(mem);
         let some = interrupt < 5;
         if some {
             let s = not_halting(cpu);

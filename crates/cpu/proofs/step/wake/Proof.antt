@@ -7,7 +7,7 @@ use Rattle.cpu.proofs.step.wake.Tie as tie
 returns : tie.Need-returns
 returns c =
     let idle = c .before .before .before .before .before .before .before .before .before .idle in
-    let peek = c .before .before .before .before .before .peek in (
+    let peek = c .before .before .before .before .before .peek-next-interrupt in (
       woken-dmg (c .before .before .before .before .before .before .before .before .before .before .before .before .before .before .args .cpu) _ _ _ (c .before .before .before .before .before .before .before .before .before .before .before .before .is-asleep .ensures) _ _ _ _ (c .before .before .before .before .before .before .before .before .before .before .before .if1 .taken) (idle .ensures .0) (idle .ensures .1) (peek .ensures .0) (peek .ensures .1)
           _ (c .before .before .if2 .taken) (c .before .not-halting .ensures) (c .if3 .taken),
       peek .ensures .2,
@@ -16,7 +16,7 @@ returns c =
 returns-2 : tie.Need-returns-2
 returns-2 c =
     let idle = c .before .before .before .before .before .before .before .before .before .before .before .before .before .idle in
-    let peek = c .before .before .before .before .before .before .before .before .before .peek in
+    let peek = c .before .before .before .before .before .before .before .before .before .peek-next-interrupt in
     let more = c .before .before .idle2 in (
       woken-cgb (c .before .before .before .before .before .before .before .before .before .before .before .before .before .before .before .before .before .before .args .cpu) _ _ _ (c .before .before .before .before .before .before .before .before .before .before .before .before .before .before .before .before .is-asleep .ensures) _ _ _ _ (c .before .before .before .before .before .before .before .before .before .before .before .before .before .before .before .if1 .taken) (idle .ensures .0) (idle .ensures .1) (peek .ensures .0) (peek .ensures .1)
           _ (c .before .before .before .before .before .before .if2 .taken) (c .before .before .before .before .before .not-halting .ensures) _ _ (c .before .before .before .before .if3 .left) (more .ensures .0) (more .ensures .1),
@@ -26,7 +26,7 @@ returns-2 c =
 returns-3 : tie.Need-returns-3
 returns-3 c =
     let idle = c .before .before .before .before .before .before .before .idle in
-    let peek = c .before .before .before .peek in (
+    let peek = c .before .before .before .peek-next-interrupt in (
       still-asleep _ _ _ _ (c .before .before .before .before .before .before .before .before .before .before .is-asleep .ensures) _ _ _ _ (c .before .before .before .before .before .before .before .before .before .if1 .taken) (idle .ensures .0) (idle .ensures .1) (peek .ensures .0) (peek .ensures .1) (c .if2 .left),
       peek .ensures .2,
     )
