@@ -1,2 +1,5 @@
 -- Laws over plain variables, each applied to what the callees of one function ensure.
+pub mod Leading
 pub mod Parts
+pub mod OnWords
+pub mod Jumping

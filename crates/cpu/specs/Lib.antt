@@ -1,3 +1,4 @@
 -- What the code of the processor does, as contracts state it.
 pub mod Leads
 pub mod Mirror
+pub mod Runnable
