@@ -12,6 +12,7 @@ use Rattle.sm83.specs.Execution.{_>>=_, _>>_, give, setReg, regHL, imm8, imm16,
 use Rattle.memory.specs.declared.Port.{Port}
 use Rattle.memory.specs.World.{World, world, leads, counted}
 use Rattle.cpu.specs.Leads.{Leads}
+use Rattle.cpu.proofs.Leading.{after, stored}
 
 module _ (s : Cpu) (port port' : Port) (m m' : List ℕ) where
   pub byte-at-pc : (v to : ℕ) → v ≡ byteAt m (pc s) → port' ≡ counted port → m' ≡ m → to ≡ next (pc s) → Leads imm8 s port m v (setPC to s) port' m'
@@ -51,3 +52,10 @@ module _ (s : Cpu) (port port' : Port) (m m' : List ℕ) where
 pub two-bytes : (s t u : Cpu) (port port' port'' : Port) (m m' m'' : List ℕ) (low high w : ℕ) → Leads imm8 s port m low t port' m' → Leads imm8 t port' m' high u port'' m'' → w ≡ word high low → Leads imm16 s port m w u port'' m''
 unfolding imm16
 two-bytes s t u port port' port'' m m' m'' low high w first second e k = first (λ a x. imm8 x (λ b y. k (word b a) y)) ∙ second (λ b y. k (word b low) y) ∙ ap (λ (x : ℕ). leads (k x u) (world port'' m'')) (sym e)
+
+-- a word to where the word at PC points
+module _ (s t u : Cpu) (port port1 port2 port3 : Port) (m m1 m2 m3 : List ℕ) (v a b : ℕ) where
+  pub word-at-pc : Leads imm16 s port m a t port1 m1 → port2 ≡ counted port1 → m2 ≡ set m1 a (lowByte v) → b ≡ next a → Leads (store Operand b (highByte v)) t port2 m2 tt u port3 m3 → Leads (do x ← imm16; store Operand x (lowByte v); store Operand (next x) (highByte v)) s port m tt u port3 m3
+  word-at-pc first e1 e2 e3 last =
+      after s t u port port1 port3 m m1 m3 imm16 (λ x. store Operand x (lowByte v) >> store Operand (next x) (highByte v)) a tt first
+      (after t t u port1 port2 port3 m1 m2 m3 (store Operand a (lowByte v)) (λ _. store Operand (next a) (highByte v)) tt tt (byte-to t port1 port2 m1 m2 a (lowByte v) e1 e2) (stored t u port2 port3 m2 m3 (highByte v) b (next a) e3 last))
