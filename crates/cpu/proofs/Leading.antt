@@ -6,12 +6,11 @@ use Rattle.sm83.specs.declared.state.Cpu.{Cpu}
 use Rattle.sm83.specs.Bus.{Ask, Operand}
 use Rattle.sm83.specs.Step.{Ended}
 use Rattle.sm83.specs.Execution.{Does, _>>=_, give, store}
-use Rattle.instruction.specs.declared.OperandType.{OperandType}
 use Rattle.memory.specs.declared.Port.{Port}
 use Rattle.memory.specs.World.{World, world, leads}
 use Rattle.cpu.specs.declared.answers.Worked.{Worked}
 use Rattle.cpu.specs.Leads.{Leads}
-use Rattle.cpu.specs.Mirror.{Made, madeBy, writeOperand}
+use Rattle.cpu.specs.Mirror.{Made, madeBy}
 
 module _ (s t u : Cpu) (port port' port'' : Port) (m m' m'' : List ℕ) where
   -- one part, then another
@@ -30,11 +29,6 @@ module _ (s t : Cpu) (port port' : Port) (m m' : List ℕ) where
   -- one arm of a match: what is matched is the arm's own constructor, and the value and the state are what the arm makes
   pub arm : {X A : Type 0} (u : Cpu) (P : X → Does Ended A) (x y : X) (a b : A) → x ≡ y → b ≡ a → u ≡ t → Leads (P y) s port m a t port' m' → Leads (P x) s port m b u port' m'
   arm u P x y a b e e' e'' l = subst (λ z. Leads (P x) s port m b z port' m') (sym e'') (subst (λ z. Leads (P x) s port m z t port' m') (sym e') (subst (λ z. Leads (P z) s port m a t port' m') (sym e) l))
-
--- arms of `write_operand`: a call, and registers put back
-module _ (s t : Cpu) (port port' : Port) (m m' : List ℕ) (v : ℕ) (ty kind : OperandType) where
-  pub written : ty ≡ kind → Leads (writeOperand kind v) s port m tt t port' m' → Leads (writeOperand ty v) s port m tt t port' m'
-  written e l = along s t port port' m m' (λ (x : OperandType). writeOperand x v) kind ty tt (sym e) l
 
 -- a value by another name, and nothing done
 pub giving : (s : Cpu) (port : Port) (m : List ℕ) {A : Type 0} (a b : A) → b ≡ a → Leads (give a) s port m b s port m
