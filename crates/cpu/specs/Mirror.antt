@@ -5,16 +5,19 @@ use lib.Dec.{eqb}
 use Rattle.sm83.specs.declared.outcome.Refusal.the-variants.{IllegalOpcode}
 use Rattle.sm83.specs.declared.outcome.Outcome.{Outcome}
 use Rattle.sm83.specs.declared.outcome.Outcome.the-variants.{Normal, InfiniteLoop, Breakpoint, Refused}
-use Rattle.instruction.specs.declared.Condition.{Condition}
-use Rattle.instruction.specs.declared.Condition.the-variants as cn
-use Rattle.instruction.specs.declared.OperandType.{OperandType}
-use Rattle.instruction.specs.declared.OperandType.the-variants as ot
-use Rattle.instruction.specs.declared.Opcode.{Opcode}
-use Rattle.instruction.specs.declared.Opcode.the-variants as op
-use Rattle.instruction.specs.declared.Instruction.{Instruction}
+use Rattle.instruction.specs.declared.condition.Condition.{Condition}
+use Rattle.instruction.specs.declared.condition.Condition.the-variants as cn
+use Rattle.instruction.specs.declared.operand.OperandType.{OperandType}
+use Rattle.instruction.specs.declared.operand.OperandType.the-variants as ot
+use Rattle.instruction.specs.declared.opcode.Opcode.{Opcode}
+use Rattle.instruction.specs.declared.opcode.Opcode.the-variants as op
+use Rattle.instruction.specs.declared.instruction.Instruction.{Instruction}
+use Rattle.sm83.specs.declared.state.Cpu.{Cpu}
+use Rattle.memory.specs.declared.Port.{Port}
+use Rattle.cpu.specs.declared.answers.Worked.{Worked}
 use Rattle.sm83.specs.Basics.{if_then_else_, cleared, raised, lowByte, highByte, next, back, signed}
 use Rattle.sm83.specs.Bus.{Operand}
-use Rattle.sm83.specs.State.{pairAF, pairBC, pairDE, pairHL, writeA, writeF, writeSP, putBC, putDE, putHL, writeBC, writeDE, writeHL, writeAF, setPC, setIme, setLatch, setStopped}
+use Rattle.sm83.specs.State.{pairAF, pairBC, pairDE, pairHL, writeA, writeF, writeSP, putBC, putDE, putHL, writeBC, writeDE, writeHL, writeAF, setF, sp, setPC, setIme, setLatch, setStopped}
 use Rattle.sm83.specs.Arithmetic.{Result, flagZ, flagC, aluOp, accOp, shiftOp, increment, decrement, bitTest, wordSumFlags, offsetFlags}
 use Rattle.sm83.specs.Instruction.{Alu, ADD, ADC, SUB, SBC, AND, XOR, OR, CP, Acc, RLCA, RRCA, RLA, RRA, DAA, CPL, SCF, CCF, Shift, RLC, RRC, RL, RR, SLA, SRA, SWAP, SRL}
 use Rattle.sm83.specs.Execution.{Does, _>>=_, _>>_, give, nothing, change, reg, setReg, regA, regC, regF, regSP, regPC, regHL, load, store, wait, imm8, imm16, push, pop, high, halt, goTo, call, return}
@@ -76,14 +79,14 @@ writeOperand ot.Addr16Val16 v = do a ← imm16; store Operand a (lowByte v); sto
 writeOperand ot.Implied v = nothing
 
 -- `check_cond`
-abbrev pub checkCond : Condition → ℕ → Bool
+unfoldable pub checkCond : Condition → ℕ → Bool
 checkCond cn.NC f = not (flagC f)
 checkCond cn.C f = flagC f
 checkCond cn.NZ f = not (flagZ f)
 checkCond cn.Z f = flagZ f
 checkCond cn.Unconditional f = true
 
-abbrev pub isUnconditional : Condition → Bool
+unfoldable pub isUnconditional : Condition → Bool
 isUnconditional cn.NC = false
 isUnconditional cn.C = false
 isUnconditional cn.NZ = false
@@ -94,6 +97,13 @@ isUnconditional cn.Unconditional = true
 pub record Made : Type 0 where
   pub value : ℕ
   pub outcome : Outcome
+
+-- the struct that the code answers it in
+abbrev pub madeBy : Worked → Made
+madeBy r = record { value = r .value; outcome = r .outcome }
+
+abbrev pub worked : Cpu → Port → ℕ → Outcome → Worked
+worked s port v o = record { cpu = s; port = port; value = v; outcome = o }
 
 abbrev pub made : {R : Type 0} → ℕ → Does R Made
 made v = give (record { value = v; outcome = Normal })
@@ -114,38 +124,85 @@ accMade o = do a ← regA; f ← regF; setReg (λ r. writeF (accOp o a f .flags)
 abbrev pub shiftMade : {R : Type 0} → Shift → ℕ → Does R Made
 shiftMade o v = do f ← regF; result (shiftOp o (lowByte v) f)
 
--- SP and a signed byte that has been extended
+-- words; SP and a signed byte that has been extended
+unfoldable pub loadSPMade : {R : Type 0} → Does R Made
+loadSPMade = do wait; w ← regHL; setReg (writeSP w); made 0
+
 abbrev pub offsetMade : {R : Type 0} → ℕ → Does R Made
 offsetMade v = do w ← regSP; setReg (writeF (offsetFlags w (lowByte v))); made ((w + v) % 65536)
 
+abbrev pub offsetBy : Cpu → Port → ℕ → Worked
+offsetBy s port v = worked (setF (offsetFlags (sp s) (lowByte v)) s) port ((sp s + v) % 65536) Normal
+
+unfoldable pub loadHLMade : {R : Type 0} → ℕ → Does R Made
+loadHLMade v = do wait; offsetMade v
+
+unfoldable pub addSPMade : {R : Type 0} → ℕ → Does R Made
+addSPMade v = do wait; wait; offsetMade v
+
+unfoldable pub addHLMade : {R : Type 0} → ℕ → Does R Made
+addHLMade v = do wait; w ← regHL; f ← regF; setReg (writeF (wordSumFlags w v f)); made ((w + v) % 65536)
+
+abbrev pub slowlyMade : {R : Type 0} → ℕ → Does R Made
+slowlyMade w = do wait; made w
+
+-- the stack
+abbrev pub pushMade : {R : Type 0} → ℕ → Does R Made
+pushMade v = do wait; push v; made 0
+
+abbrev pub popMade : {R : Type 0} → Does R Made
+popMade = do w ← pop; made w
+
 -- a jump to t from the instruction at `at`; `sure` where it is unconditional
-abbrev pub jumpMade : {R : Type 0} → ℕ → Bool → ℕ → Does R Made
+unfoldable pub jumpMade : {R : Type 0} → ℕ → Bool → ℕ → Does R Made
 jumpMade at sure t = do goTo t; ends (if sure && eqb t at then InfiniteLoop else Normal)
 
-abbrev pub onlyIfMade : {R : Type 0} → Condition → Does R Made → Does R Made
+unfoldable pub onlyIfMade : {R : Type 0} → Condition → Does R Made → Does R Made
 onlyIfMade c p = do f ← regF; if checkCond c f then p else made 0
+
+abbrev pub jpMade : {R : Type 0} → Condition → ℕ → ℕ → Does R Made
+jpMade c at v = onlyIfMade c (do wait; jumpMade at (isUnconditional c) v)
+
+abbrev pub jrMade : {R : Type 0} → Condition → ℕ → ℕ → Does R Made
+jrMade c at v = onlyIfMade c (do wait; p ← regPC; jumpMade at (isUnconditional c) ((p + v) % 65536))
+
+abbrev pub callMade : {R : Type 0} → ℕ → Does R Made
+callMade t = do call t; made 0
+
+abbrev pub callIfMade : {R : Type 0} → Condition → ℕ → Does R Made
+callIfMade c t = onlyIfMade c (callMade t)
 
 abbrev pub retMade : {R : Type 0} → Does R Made
 retMade = do return; made 0
+
+-- a return that is not sure waits first
+abbrev pub retIfMade : {R : Type 0} → Condition → Does R Made
+retIfMade c = do if isUnconditional c then nothing else wait; onlyIfMade c retMade
+
+abbrev pub retiMade : {R : Type 0} → Does R Made
+retiMade = do return; change (setIme true); made 0
+
+abbrev pub haltMade : {R : Type 0} → Does R Made
+haltMade = do halt; made 0
 
 -- the match of `exec_instruction`, with the operand's value; Prefix never comes here
 unfoldable pub compute : {R : Type 0} → Opcode → ℕ → ℕ → Does R Made
 compute op.Nop at v = made 0
 compute op.Stop at v = do change (setStopped true); made 0
-compute op.Halt at v = do halt; made 0
+compute op.Halt at v = haltMade
 compute op.Ld at v = made v
-compute op.LdSPHL at v = do wait; w ← regHL; setReg (writeSP w); made 0
-compute op.LdHLSPSigned8 at v = do wait; offsetMade v
+compute op.LdSPHL at v = loadSPMade
+compute op.LdHLSPSigned8 at v = loadHLMade v
 compute op.LdBB at v = do r ← reg (λ r. r); ends (Breakpoint r)
-compute op.Push at v = do wait; push v; made 0
-compute op.Pop at v = do w ← pop; made w
+compute op.Push at v = pushMade v
+compute op.Pop at v = popMade
 compute op.Inc at v = do f ← regF; result (increment (lowByte v) f)
-compute op.Inc16 at v = do wait; made (next v)
+compute op.Inc16 at v = slowlyMade (next v)
 compute op.Dec at v = do f ← regF; result (decrement (lowByte v) f)
-compute op.Dec16 at v = do wait; made (back v)
+compute op.Dec16 at v = slowlyMade (back v)
 compute op.Add at v = aluMade ADD v
-compute op.Add16 at v = do wait; w ← regHL; f ← regF; setReg (writeF (wordSumFlags w v f)); made ((w + v) % 65536)
-compute op.AddSPSigned8 at v = do wait; wait; offsetMade v
+compute op.Add16 at v = addHLMade v
+compute op.AddSPSigned8 at v = addSPMade v
 compute op.Adc at v = aluMade ADC v
 compute op.Cp at v = aluMade CP v
 compute op.Sub at v = aluMade SUB v
@@ -153,13 +210,13 @@ compute op.Sbc at v = aluMade SBC v
 compute op.And at v = aluMade AND v
 compute op.Xor at v = aluMade XOR v
 compute op.Or at v = aluMade OR v
-compute (op.Jp c) at v = onlyIfMade c (do wait; jumpMade at (isUnconditional c) v)
+compute (op.Jp c) at v = jpMade c at v
 compute op.JpHL at v = jumpMade at true v
-compute (op.Jr c) at v = onlyIfMade c (do wait; p ← regPC; jumpMade at (isUnconditional c) ((p + v) % 65536))
-compute (op.Call c) at v = onlyIfMade c (do call v; made 0)
-compute (op.Ret c) at v = if isUnconditional c then retMade else (do wait; onlyIfMade c retMade)
-compute op.Reti at v = do return; change (setIme true); made 0
-compute (op.Rst n) at v = do call n; made 0
+compute (op.Jr c) at v = jrMade c at v
+compute (op.Call c) at v = callIfMade c v
+compute (op.Ret c) at v = retIfMade c
+compute op.Reti at v = retiMade
+compute (op.Rst n) at v = callMade n
 compute op.Di at v = do change (setIme false); made 0
 compute op.Ei at v = do change (setLatch true); made 0
 compute op.Ccf at v = accMade CCF
@@ -187,3 +244,8 @@ compute op.Illegal at v = do change (setPC at); ends (Refused IllegalOpcode)
 -- `exec_instruction`
 unfoldable pub execRow : {R : Type 0} → Instruction → ℕ → Does R Outcome
 execRow i at = do v ← readOperand (i .src); w ← compute (i .opcode) at v; writeOperand (i .dest) (w .value); give (w .outcome)
+
+-- a proof that says `unfolding mirroring` opens all of this page
+unfoldable pub mirroring : ℕ
+unfolding execRow compute onlyIfMade jumpMade addHLMade addSPMade loadHLMade loadSPMade isUnconditional checkCond writeOperand readOperand
+mirroring = 0

@@ -1,13 +1,12 @@
--- What `exec_instruction` can be handed: an operand that is read, one that is written, an operation. 000's `unreachable!` arms are the rest; no row of the two tables has one.
+-- Which rows can be run: no operand that is never read or never written, no prefix, and no bit past a byte's eight.
 use mathlib.Core.Bool.{Bool, true, false, _&&_}
 use lib.Dec.{ltb}
-use Rattle.instruction.specs.declared.OperandType.{OperandType}
-use Rattle.instruction.specs.declared.OperandType.the-variants as ot
-use Rattle.instruction.specs.declared.Opcode.{Opcode}
-use Rattle.instruction.specs.declared.Opcode.the-variants as op
-use Rattle.instruction.specs.declared.Instruction.{Instruction}
+use Rattle.instruction.specs.declared.operand.OperandType.{OperandType}
+use Rattle.instruction.specs.declared.operand.OperandType.the-variants as ot
+use Rattle.instruction.specs.declared.opcode.Opcode.{Opcode}
+use Rattle.instruction.specs.declared.opcode.Opcode.the-variants as op
+use Rattle.instruction.specs.declared.instruction.Instruction.{Instruction}
 
--- two bytes of memory are only written
 abbrev pub readable : OperandType → Bool
 readable ot.RegA = true
 readable ot.RegB = true
@@ -35,7 +34,6 @@ readable ot.Addr16 = true
 readable ot.Addr16Val16 = false
 readable ot.Implied = true
 
--- an immediate is only read
 abbrev pub writable : OperandType → Bool
 writable ot.RegA = true
 writable ot.RegB = true
@@ -63,61 +61,60 @@ writable ot.Addr16 = true
 writable ot.Addr16Val16 = true
 writable ot.Implied = true
 
--- the prefix is read with the byte that follows it; a byte has eight bits
-abbrev pub isOperation : Opcode → Bool
-isOperation op.Nop = true
-isOperation op.Stop = true
-isOperation op.Halt = true
-isOperation op.Ld = true
-isOperation op.LdSPHL = true
-isOperation op.LdHLSPSigned8 = true
-isOperation op.LdBB = true
-isOperation op.Push = true
-isOperation op.Pop = true
-isOperation op.Inc = true
-isOperation op.Inc16 = true
-isOperation op.Dec = true
-isOperation op.Dec16 = true
-isOperation op.Add = true
-isOperation op.Add16 = true
-isOperation op.AddSPSigned8 = true
-isOperation op.Adc = true
-isOperation op.Cp = true
-isOperation op.Sub = true
-isOperation op.Sbc = true
-isOperation op.And = true
-isOperation op.Xor = true
-isOperation op.Or = true
-isOperation (op.Jp c) = true
-isOperation op.JpHL = true
-isOperation (op.Jr c) = true
-isOperation (op.Call c) = true
-isOperation (op.Ret c) = true
-isOperation op.Reti = true
-isOperation (op.Rst n) = true
-isOperation op.Di = true
-isOperation op.Ei = true
-isOperation op.Ccf = true
-isOperation op.Scf = true
-isOperation op.Daa = true
-isOperation op.Cpl = true
-isOperation op.Rlca = true
-isOperation op.Rla = true
-isOperation op.Rrca = true
-isOperation op.Rra = true
-isOperation op.Prefix = false
-isOperation op.Rlc = true
-isOperation op.Rrc = true
-isOperation op.Rl = true
-isOperation op.Rr = true
-isOperation op.Sla = true
-isOperation op.Sra = true
-isOperation op.Swap = true
-isOperation op.Srl = true
-isOperation (op.Bit n) = ltb n 8
-isOperation (op.Res n) = ltb n 8
-isOperation (op.Set n) = ltb n 8
-isOperation op.Illegal = true
+abbrev pub executable : Opcode → Bool
+executable op.Nop = true
+executable op.Stop = true
+executable op.Halt = true
+executable op.Ld = true
+executable op.LdSPHL = true
+executable op.LdHLSPSigned8 = true
+executable op.LdBB = true
+executable op.Push = true
+executable op.Pop = true
+executable op.Inc = true
+executable op.Inc16 = true
+executable op.Dec = true
+executable op.Dec16 = true
+executable op.Add = true
+executable op.Add16 = true
+executable op.AddSPSigned8 = true
+executable op.Adc = true
+executable op.Cp = true
+executable op.Sub = true
+executable op.Sbc = true
+executable op.And = true
+executable op.Xor = true
+executable op.Or = true
+executable (op.Jp _) = true
+executable op.JpHL = true
+executable (op.Jr _) = true
+executable (op.Call _) = true
+executable (op.Ret _) = true
+executable op.Reti = true
+executable (op.Rst _) = true
+executable op.Di = true
+executable op.Ei = true
+executable op.Ccf = true
+executable op.Scf = true
+executable op.Daa = true
+executable op.Cpl = true
+executable op.Rlca = true
+executable op.Rla = true
+executable op.Rrca = true
+executable op.Rra = true
+executable op.Prefix = false
+executable op.Rlc = true
+executable op.Rrc = true
+executable op.Rl = true
+executable op.Rr = true
+executable op.Sla = true
+executable op.Sra = true
+executable op.Swap = true
+executable op.Srl = true
+executable (op.Bit n) = ltb n 8
+executable (op.Res n) = ltb n 8
+executable (op.Set n) = ltb n 8
+executable op.Illegal = true
 
 abbrev pub runnable : Instruction → Bool
-runnable i = isOperation (i .opcode) && (readable (i .src) && writable (i .dest))
+runnable i = readable (i .src) && writable (i .dest) && executable (i .opcode)

@@ -1,59 +1,14 @@
-// Operands.
-ghost use mathlib.Core.Path.{_≡_};
-ghost use Prim.Native.Nat.{_+_, _%_};
-ghost use lib.ListN.{length};
-ghost use Rattle.sm83.specs.Execution.{imm8, imm16};
-ghost use Rattle.cpu.specs.Leads.{Leads};
-use memory::Got;
-use memory::Port;
-use sm83::addr::Addr;
-use sm83::registers::pair;
-use sm83::state::Cpu;
-
-pub struct Val8 {
-    pub cpu: Cpu,
-    pub port: Port,
-    pub value: u8,
-}
-
-pub struct Val16 {
-    pub cpu: Cpu,
-    pub port: Port,
-    pub value: u16,
-}
-
-pub fn fetch_next_pc(cpu: Cpu, port: Port, mem: &mut [u8]) -> Val8
-    requires { ⌜ length (now mem) ≡ 65536 ⌝ }
-    ensures { λ r. ⌜ Leads imm8 cpu port (now (mem .entry)) (r .value) (r .cpu) (r .port) (now (mem .exit)) × (length (now (mem .exit)) ≡ 65536) ⌝ }
-{
-    let mut regs = cpu.registers;
-    let at = regs.pc;
-    let got = memory::read(port, mem, at);
-    let p = got.port;
-    let after = at.wrapping_add(1);
-    regs.pc = after;
-    let mut s = cpu;
-    s.registers = regs;
-    Val8 {
-        cpu: s,
-        port: p,
-        value: got.value,
-    }
-}
-
-pub fn fetch16(cpu: Cpu, port: Port, mem: &mut [u8]) -> Val16
-    requires { ⌜ length (now mem) ≡ 65536 ⌝ }
-    ensures { λ r. ⌜ Leads imm16 cpu port (now (mem .entry)) (r .value) (r .cpu) (r .port) (now (mem .exit)) × (length (now (mem .exit)) ≡ 65536) ⌝ }
-{
-    let x = fetch_next_pc(cpu, port, mem);
-    let c = x.cpu;
-    let p = x.port;
-    let y = fetch_next_pc(c, p, mem);
-    let d = y.cpu;
-    let q = y.port;
-    Val16 {
-        cpu: d,
-        port: q,
-        value: pair(y.value, x.value),
-    }
-}
+// The processor: operands, the stack, arithmetic, jumps and the execution of one instruction, each in the order of accesses of the Rust.
+pub mod access;
+pub mod answers;
+pub mod compute;
+pub mod destinations;
+pub mod exec;
+pub mod fetch;
+pub mod halt;
+pub mod jumps;
+pub mod results;
+pub mod sources;
+pub mod stack;
+pub mod words;
+pub mod step;

@@ -48,8 +48,7 @@ fn lowest(x: u8) -> u8
     }
 }
 
-// `peek_next_interrupt`
-pub fn peek(mem: &mut [u8]) -> u8
+pub fn peek_next_interrupt(mem: &mut [u8]) -> u8
     requires { ⌜ length (now mem) ≡ 65536 ⌝ }
     ensures { λ r. ⌜ (r ≡ pending (now (mem .entry))) × (now (mem .exit) ≡ now (mem .entry)) × (length (now (mem .exit)) ≡ 65536) ⌝ }
 {
@@ -67,12 +66,12 @@ fn acknowledge(mem: &mut [u8], interrupt: u8)
     mem[0xff0f] = left;
 }
 
-// `take_next_interrupt`
-fn take(mem: &mut [u8]) -> u8
+// Clears the bit of the interrupt that it answers.
+fn take_next_interrupt(mem: &mut [u8]) -> u8
     requires { ⌜ length (now mem) ≡ 65536 ⌝ }
     ensures { λ r. ⌜ (r ≡ pending (now (mem .entry))) × (now (mem .exit) ≡ taken (now (mem .entry))) × (length (now (mem .exit)) ≡ 65536) ⌝ }
 {
-    let interrupt = peek(mem);
+    let interrupt = peek_next_interrupt(mem);
     let some = interrupt < 5;
     if some {
         acknowledge(mem, interrupt);
@@ -88,7 +87,7 @@ pub fn write_and_take(port: Port, mem: &mut [u8], a: Addr, v: u8) -> Got
     ensures { λ r. ⌜ (r .value ≡ pending (set (now (mem .entry)) (a .0) v)) × (r .port ≡ counted port) × (now (mem .exit) ≡ taken (set (now (mem .entry)) (a .0) v)) × (length (now (mem .exit)) ≡ 65536) ⌝ }
 {
     let p = write(port, mem, a, v);
-    let interrupt = take(mem);
+    let interrupt = take_next_interrupt(mem);
     Got {
         port: p,
         value: interrupt,
