@@ -1,0 +1,19 @@
+-- Shows points 4 to 7.
+use borrow.Author.Needs.{needs}
+use Rattle.cpu.proofs.Stepping.{awake-dispatches, awake-runs}
+use Rattle.cpu.proofs.step.awake.Statement.{statement}
+use Rattle.cpu.proofs.step.awake.Tie as tie
+
+returns : tie.Need-returns
+returns c =
+    (awake-dispatches _ _ _ _ _ _ _ _ _ (c .before .before .before .before .before .before .before .is-called .ensures .0) (c .before .before .before .before .before .before .before .is-called .ensures .1) (c .before .before .before .before .if1 .taken) (c .before .before .dispatch .ensures .0), c .before .before .dispatch .ensures .1)
+
+returns-2 : tie.Need-returns-2
+returns-2 c =
+    (awake-runs _ _ _ _ _ _ _ _ _ (c .before .before .before .before .before .before .before .is-called .ensures .0) (c .before .before .before .before .before .before .before .is-called .ensures .1) (c .before .before .before .before .if1 .left) (c .before .before .run-one .ensures .0), c .before .before .run-one .ensures .1)
+
+pub awake-spec : {M : Type 1} → statement M
+awake-spec =
+    tie.close
+    (tie.spec
+    (λ c κs. search needs) (λ c κs. search needs) (λ c κs. search needs) (λ c. search needs) returns (λ c. search needs) returns-2)

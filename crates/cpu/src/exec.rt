@@ -1,0 +1,53 @@
+// One instruction: its operand, what it does, where its result goes.
+ghost use mathlib.Core.Path.{_≡_};
+ghost use lib.Dec.{T};
+ghost use lib.ListN.{length};
+ghost use Rattle.cpu.specs.Leads.{Leads};
+ghost use Rattle.cpu.specs.Mirror.{execRow};
+ghost use Rattle.cpu.specs.Runnable.{runnable};
+use crate::compute::compute;
+use crate::destinations::write_operand;
+use crate::sources::read_operand;
+use instruction::instruction::Instruction;
+use memory::Port;
+use sm83::addr::Addr;
+use sm83::outcome::Outcome;
+use sm83::state::Cpu;
+
+pub struct Executed {
+    pub cpu: Cpu,
+    pub port: Port,
+    pub outcome: Outcome,
+}
+
+// `at` is the address of the instruction; PC is past its first byte, or its first two after a prefix.
+pub fn exec_instruction(
+    cpu: Cpu,
+    port: Port,
+    instruction: Instruction,
+    at: Addr,
+    mem: &mut [u8],
+) -> Executed
+    requires { ⌜ length (now mem) ≡ 65536 ⌝ }
+    requires { ⌜ T (runnable instruction) ⌝ }
+    ensures { λ r. ⌜ Leads (execRow instruction (at .0)) cpu port (now (mem .entry)) (r .outcome) (r .cpu) (r .port) (now (mem .exit)) × (length (now (mem .exit)) ≡ 65536) ⌝ }
+{
+    let src = instruction.src;
+    let opcode = instruction.opcode;
+    let dest = instruction.dest;
+    let x = read_operand(cpu, port, src, mem);
+    let c = x.cpu;
+    let p = x.port;
+    let w = compute(c, p, opcode, x.value, at, mem);
+    let d = w.cpu;
+    let q = w.port;
+    let outcome = w.outcome;
+    let y = write_operand(d, q, dest, w.value, mem);
+    let e = y.cpu;
+    let o = y.port;
+    Executed {
+        cpu: e,
+        port: o,
+        outcome: outcome,
+    }
+}

@@ -1,0 +1,3 @@
+-- What the callees of taking an interrupt ensure, put together.
+pub mod Taking
+pub mod Counted

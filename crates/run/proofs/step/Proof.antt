@@ -1,0 +1,24 @@
+-- Shows the step: a run with a budget of one.
+use borrow.Author.Needs.{needs}
+use mathlib.Core.Path.{ap, _∙_}
+use mathlib.Core.List.{List}
+use Prim.Native.Nat.{ℕ}
+use Rattle.sm83.specs.Run.{RunAnswer}
+use Rattle.run.specs.Answers.{outcomeOf}
+use Rattle.run.proofs.Admitted.{once}
+use Rattle.run.proofs.step.Statement.{statement}
+use Rattle.run.proofs.step.Tie as tie
+
+returns : tie.Need-returns
+returns c =
+    let e = c .before .before .before .before .before .run .ensures in
+    let it = once (c .before .before .before .before .before .before .before .before .args .cpu) (c .before .before .before .before .before .before .before .before .args .mem .now) in
+    record {
+      outcome = c .outcome-of .ensures ∙ ap (λ (r : RunAnswer (List ℕ)). outcomeOf (r .last)) e ∙ ap outcomeOf (it .0);
+      cpu = ap (λ (r : RunAnswer (List ℕ)). r .cpu) e ∙ it .1;
+      memory = ap (λ (r : RunAnswer (List ℕ)). r .memory) e ∙ it .2;
+      cycles = ap (λ (r : RunAnswer (List ℕ)). r .cycles) e ∙ it .3;
+    }
+
+pub step-spec : {M : Type 1} → statement M
+step-spec = tie.close (tie.spec (λ c κs. search needs) (λ c κs. search needs) (λ c. search needs) returns)

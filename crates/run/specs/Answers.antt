@@ -1,0 +1,29 @@
+-- The code's answers with the memory that they leave, as the definition's: the outcome, the state, every byte, the steps and the M-cycles in one equation.
+use mathlib.Core.Path.{_≡_}
+use mathlib.Core.List.{List}
+use Prim.Native.Nat.{ℕ}
+use Rattle.sm83.specs.declared.state.Cpu.{Cpu}
+use Rattle.sm83.specs.declared.outcome.Outcome.{Outcome}
+use Rattle.sm83.specs.declared.outcome.Outcome.the-variants.{Normal}
+use Rattle.sm83.specs.declared.outcome.LastOutcome.{LastOutcome}
+use Rattle.sm83.specs.declared.outcome.LastOutcome.the-variants.{NothingRun, Last}
+use Rattle.sm83.specs.Bus.{Ran, plain, mcycles}
+use Rattle.sm83.specs.Step.{Ended, stepOn}
+use Rattle.sm83.specs.Run.{RunAnswer}
+use Rattle.run.specs.declared.Ran.{Ran as CodeRan}
+use Rattle.run.specs.declared.Stepped.{Stepped}
+
+abbrev pub answer : CodeRan → List ℕ → RunAnswer (List ℕ)
+answer r m = record { last = r .last; cpu = r .cpu; memory = m; steps = r .steps; cycles = r .cycles .0 }
+
+-- the outcome of a run of one step; such a run is never one of which nothing is run
+abbrev pub outcomeOf : LastOutcome → Outcome
+outcomeOf NothingRun = Normal
+outcomeOf (Last o) = o
+
+-- a step's answer is pinned by its outcome and state, its memory and the length of its list of accesses
+pub record Answers (s : Cpu) (m : List ℕ) (r : Stepped) (m' : List ℕ) : Type 0 where
+  pub outcome : r .outcome ≡ stepOn plain s m .value .outcome
+  pub cpu : r .cpu ≡ stepOn plain s m .value .cpu
+  pub memory : m' ≡ stepOn plain s m .memory
+  pub cycles : r .cycles .0 ≡ mcycles (stepOn plain s m .accesses)
