@@ -1,0 +1,10 @@
+-- Shows the state at the offsets, from its registers and its halt mode.
+use borrow.Author.Needs.{needs}
+use Rattle.blocks.proofs.state.state_at.Statement.{statement}
+use Rattle.blocks.proofs.state.state_at.Tie as tie
+
+returns : tie.Need-returns
+returns c = simp (c .before .before .before .halt-of .ensures, c .before .before .before .before .before .before .before .front-registers .ensures)
+
+pub state-at-spec : {M : Type 1} → statement M
+state-at-spec = tie.close (tie.spec (λ c κs. search needs) (λ c. search needs) (λ c. search needs) (λ c. search needs) (λ c κs. search needs) (λ c. search needs) (λ c. search needs) (λ c. search needs) returns)

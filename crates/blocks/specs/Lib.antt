@@ -1,0 +1,5 @@
+-- The layouts of the blocks, by their offsets.
+pub mod Bytes
+pub mod StateBlock
+pub mod AnswerBlock
+pub mod ScreenBlock

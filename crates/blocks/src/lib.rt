@@ -1,0 +1,5 @@
+// The processor's state, and a step's, a run's and a screen's answer, as blocks of bytes with fixed offsets, on lent slices. Layouts: specs/.
+pub mod answer;
+pub mod bytes;
+pub mod screen;
+pub mod state;
