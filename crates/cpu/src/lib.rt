@@ -10,5 +10,5 @@ pub mod jumps;
 pub mod results;
 pub mod sources;
 pub mod stack;
-pub mod words;
 pub mod step;
+pub mod words;
