@@ -78,3 +78,7 @@ module _ (s u t : Cpu) (port port' : Port) (m m' : List ℕ) (b : ℕ) (e : u �
             ∙ ap (λ (x : ℕ). leads (execute (pc u) (decode x) v k) (world port' m')) eb
             ∙ second-byte (pc u) v w port' port'' m' m'' y second k
             ∙ sym (prefixed-row-leads m'' bytes (pc u) w regs k port'' y)
+
+-- 7. the instruction that the entry stands for is executed
+pub executes : (s t u : Cpu) (port port' port'' : Port) (m m' m'' : List ℕ) (at : ℕ) (i j : Instruction) (o : Outcome) → Fetches s port m at i t port' m' → j ≡ i → Leads (execRow j at) t port' m' o u port'' m'' → Leads instruction s port m o u port'' m''
+executes s t u port port' port'' m m' m'' at i j o fetches e l k = fetches k ∙ ap (λ (x : Instruction). leads (execRow x at t k) (world port' m')) (sym e) ∙ l k

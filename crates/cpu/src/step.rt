@@ -7,7 +7,7 @@ ghost use Rattle.sm83.specs.Bus.{isInterrupt, pending};
 ghost use Rattle.sm83.specs.State.{setHalt};
 ghost use Rattle.sm83.specs.Step.{isBug, isAsleep, enabled, dispatch, instruction, awake, step};
 ghost use Rattle.sm83.specs.declared.state.HaltMode.the-variants.{NotHalting};
-ghost use Rattle.instruction.specs.Entry.{Plain, Prefixed};
+ghost use Rattle.instruction.specs.Entry.{rowAt, Plain, Prefixed};
 ghost use Rattle.cpu.specs.Leads.{Leads};
 ghost use Rattle.cpu.specs.Runnable.{runnable};
 ghost use Rattle.cpu.specs.Stages.{unbugged, Fetches, dispatched, Wakes};
@@ -24,11 +24,12 @@ use sm83::outcome::Outcome;
 use sm83::state::Cpu;
 use sm83::state::HaltMode;
 
-// What is to be executed, and from where it was fetched.
+// The table's entry for what is to be executed, the byte that it stands at, and from where it was fetched.
 pub struct Fetched {
     pub cpu: Cpu,
     pub port: Port,
-    pub instruction: Instruction,
+    pub entry: u32,
+    pub byte: u8,
     pub at: Addr,
 }
 
@@ -103,7 +104,7 @@ fn unbug(cpu: Cpu, at: Addr) -> Cpu
 }
 
 // 5 and 6. After 0xCB another byte says what is to be done.
-fn fetch_instruction(
+fn fetch_entry(
     cpu: Cpu,
     port: Port,
     plain: &[u32; 256],
@@ -113,7 +114,7 @@ fn fetch_instruction(
     requires { ⌜ length (now mem) ≡ 65536 ⌝ }
     requires { ⌜ Plain (now plain) ⌝ }
     requires { ⌜ Prefixed (now prefixed) ⌝ }
-    ensures { λ r. ⌜ Fetches cpu port (now (mem .entry)) (r .at .0) (r .instruction) (r .cpu) (r .port) (now (mem .exit)) × T (runnable (r .instruction)) × (length (now (mem .exit)) ≡ 65536) ⌝ }
+    ensures { λ r. ⌜ Fetches cpu port (now (mem .entry)) (r .at .0) (rowAt (r .entry) (r .byte)) (r .cpu) (r .port) (now (mem .exit)) × T (runnable (rowAt (r .entry) (r .byte))) × (length (now (mem .exit)) ≡ 65536) ⌝ }
 {
     let c = enable(cpu);
     let regs = c.registers;
@@ -121,24 +122,26 @@ fn fetch_instruction(
     let x = fetch_next_pc(c, port, mem);
     let d = x.cpu;
     let p = x.port;
+    let b = x.value;
     let s = unbug(d, at);
-    if x.value == 0xcb {
+    if b == 0xcb {
         let y = fetch_next_pc(s, p, mem);
         let e = y.cpu;
         let q = y.port;
-        let i = Instruction::from_prefix(prefixed, y.value);
+        let second = y.value;
         Fetched {
             cpu: e,
             port: q,
-            instruction: i,
+            entry: prefixed[second as usize],
+            byte: second,
             at: at,
         }
     } else {
-        let i = Instruction::from_byte(plain, x.value);
         Fetched {
             cpu: s,
             port: p,
-            instruction: i,
+            entry: plain[b as usize],
+            byte: b,
             at: at,
         }
     }
@@ -157,11 +160,11 @@ fn run_one(
     requires { ⌜ Prefixed (now prefixed) ⌝ }
     ensures { λ r. ⌜ Leads instruction cpu port (now (mem .entry)) (r .outcome) (r .cpu) (r .port) (now (mem .exit)) × (length (now (mem .exit)) ≡ 65536) ⌝ }
 {
-    let x = fetch_instruction(cpu, port, plain, prefixed, mem);
+    let x = fetch_entry(cpu, port, plain, prefixed, mem);
     let s = x.cpu;
     let p = x.port;
-    let i = x.instruction;
     let at = x.at;
+    let i = Instruction::from_entry(x.entry, x.byte);
     exec_instruction(s, p, i, at, mem)
 }
 

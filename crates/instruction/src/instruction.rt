@@ -30,7 +30,8 @@ impl Instruction {
         Instruction::from_entry(table[byte as usize], byte)
     }
 
-    fn from_entry(entry: u32, byte: u8) -> Instruction
+    // What an entry of either table stands for. A step calls this once, whichever table the entry is from.
+    pub fn from_entry(entry: u32, byte: u8) -> Instruction
         ensures { λ r. ⌜ r ≡ rowAt entry byte ⌝ }
     {
         let condition = condition_of((entry / 1024 % 8) as u8);

@@ -1,14 +1,22 @@
--- Shows points 5 to 7: the fetch, then the execution.
+-- Shows points 5 to 7: the fetch, the entry's instruction, then its execution.
 use borrow.Author.Needs.{needs}
-use mathlib.Core.Path.{_∙_}
+use mathlib.Core.Path.{sym, subst, _∙_}
+use lib.Dec.{T}
+use Rattle.instruction.specs.declared.instruction.Instruction.{Instruction}
+use Rattle.cpu.specs.Runnable.{runnable}
+use Rattle.cpu.proofs.Fetching.{executes}
 use Rattle.cpu.proofs.step.run_one.Statement.{statement}
 use Rattle.cpu.proofs.step.run_one.Tie as tie
 
+exec-instruction-requires : tie.Need-exec-instruction-requires
+exec-instruction-requires c κs = (c .before .before .before .before .before .before .before .fetch-entry .ensures .2, subst (λ (i : Instruction). T (runnable i)) (sym (c .before .from-entry .ensures)) (c .before .before .before .before .before .before .before .fetch-entry .ensures .1))
+
 returns : tie.Need-returns
-returns c = (λ k. c .before .before .before .before .before .before .before .before .before .before .fetch-instruction .ensures .0 k ∙ c .before .before .exec-instruction .ensures .0 k, c .before .before .exec-instruction .ensures .1)
+returns c =
+    (executes _ _ _ _ _ _ _ _ _ _ _ _ _ (c .before .before .before .before .before .before .before .before .before .before .fetch-entry .ensures .0) (c .before .before .before .before .from-entry .ensures) (c .before .before .exec-instruction .ensures .0), c .before .before .exec-instruction .ensures .1)
 
 pub run-one-spec : {M : Type 1} → statement M
 run-one-spec =
     tie.close
     (tie.spec
-    (λ c κs. search needs) (λ c κs. search needs) (λ c. search needs) returns)
+    (λ c κs. search needs) (λ c κs. search needs) exec-instruction-requires (λ c. search needs) returns)
