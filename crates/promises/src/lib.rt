@@ -1,0 +1,1 @@
+// The demands over the code's own answers. No code: the theorems stand in proofs/.
