@@ -46,13 +46,12 @@ module _ (m : List ℕ) (first last : ℕ) (lent marks : List ℕ) (verdict : Ve
 
     -- "keeps every PC at a marked instruction start, and no step is refused, halts, stops or takes an interrupt, until a return is taken or a step writes into the routine"
     pub steps-keep-the-place : length (mem 0) ≡ 65536 → SameWindow plain first (window first last) m (mem 0)
-      → Quiet (cpu 0) → Marked (pc (cpu 0))
-      → (k : ℕ) → ((i : ℕ) → i < k → GoesOn plain first (window first last) mem (cpu 0) i)
-      → Marked (pc (cpu k)) × T (isFine (stepped k .outcome)) × Quiet (stepped k .cpu)
+        → Quiet (cpu 0) → Marked (pc (cpu 0))
+        → (k : ℕ) → ((i : ℕ) → i < k → GoesOn plain first (window first last) mem (cpu 0) i)
+        → Marked (pc (cpu k)) × T (isFine (stepped k .outcome)) × Quiet (stepped k .cpu)
     steps-keep-the-place whole same quiet marked k goes =
         let end : _ = demand-3 m first last lent passed address mem whole same (cpu 0) quiet (by-the-screen (pc (cpu 0)) marked) k goes in
-        let here : stateAt plain mem (cpu 0) k ≡ cpu k = sym (same-states k) in
-        (
+        let here : stateAt plain mem (cpu 0) k ≡ cpu k = sym (same-states k) in (
           in-the-marks (pc (cpu k)) (subst (λ (s : Cpu). T (isMarked (screen m first last lent .marks) first (pc s))) here (end .0)),
           subst⁻¹ (λ o. T (isFine o)) (answers k .outcome) (subst (λ (s : Cpu). T (isFine (stepOn plain s (mem k) .value .outcome))) here (end .2 .outcome)),
           subst⁻¹ Quiet (answers k .cpu) (subst (λ (s : Cpu). Quiet (stepOn plain s (mem k) .value .cpu)) here (end .2 .leaves-quiet)),
@@ -66,8 +65,7 @@ module _ (m : List ℕ) (first last : ℕ) (lent marks : List ℕ) (verdict : Ve
 
     pub run-ends-in-place : length m ≡ 65536 → Quiet s → Marked (pc s) → StaysToTheEnd plain first (window first last) budget s m → Marked (pc (ran .cpu)) × Quiet (ran .cpu)
     run-ends-in-place whole quiet marked stays =
-        let end : _ = demand-3-run-ends m first last lent passed address whole s quiet (by-the-screen (pc s) marked) budget stays in
-        (
+        let end : _ = demand-3-run-ends m first last lent passed address whole s quiet (by-the-screen (pc s) marked) budget stays in (
           in-the-marks (pc (ran .cpu)) (subst⁻¹ (λ (r : RunAnswer (List ℕ)). T (isMarked (screen m first last lent .marks) first (pc (r .cpu)))) answers (end .0)),
           subst⁻¹ (λ (r : RunAnswer (List ℕ)). Quiet (r .cpu)) answers (end .1),
         )
