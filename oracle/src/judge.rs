@@ -1,5 +1,5 @@
 //! The unmodified Rust core and the proved core in one program: compared step by step, or timed.
-//! judge compare STEPS SEED | judge time rust|ours STEPS
+//! judge compare STEPS SEED | judge time rust|ours STEPS | judge screen TIMES
 #![allow(dead_code)]
 mod compare;
 mod flat;
@@ -40,7 +40,7 @@ fn quiet() -> File {
 }
 
 fn usage() -> ! {
-    eprintln!("judge: want 'compare STEPS SEED' or 'time rust|ours STEPS'");
+    eprintln!("judge: want 'compare STEPS SEED', 'time rust|ours STEPS' or 'screen TIMES'");
     std::process::exit(2)
 }
 
@@ -50,6 +50,7 @@ fn main() {
     let mut out = quiet();
     match words.first().map(String::as_str) {
         Some("compare") => std::process::exit(compare::all(&mut out, number(1), number(2))),
+        Some("screen") => timing::screening(&mut out, number(1)),
         Some("time") => timing::one(&mut out, words.get(1).map_or_else(|| usage(), |w| w.as_str()), number(2)),
         _ => usage(),
     }

@@ -35,6 +35,18 @@ pub fn start() -> ours::Block {
     s
 }
 
+/// Nanoseconds for one screening of the longest window: 4,095 NOPs and a RET.
+pub fn screening(out: &mut impl Write, times: u64) {
+    let mut mem = vec![0u8; 65536];
+    mem[0x4fff] = 0xc9;
+    let mut marks = vec![0u8; 4096];
+    let began = Instant::now();
+    for _ in 0..times {
+        assert_eq!(ours::screen(&mem, 0x4000, 0x4fff, &mut marks), (0, None));
+    }
+    writeln!(out, "screen: {} ns a window of 4,096 bytes", began.elapsed().as_nanos() / times as u128).unwrap();
+}
+
 /// One core's nanoseconds for so many steps, and a sum over its state and memory: both cores must come to the same.
 pub fn one(out: &mut impl Write, which: &str, steps: u64) {
     let (mut block, mut bytes) = (start(), program());

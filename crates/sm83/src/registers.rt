@@ -5,7 +5,7 @@ ghost use Rattle.sm83.specs.Arithmetic.{flagZ, flagN, flagH, flagC};
 ghost use Rattle.sm83.specs.PowerOn.{registers-zero, registers-dmg, registers-cgb, registers-cgb-dmg};
 use crate::addr::Addr;
 
-// The order of the fields is the fastest of those that were timed; nothing else depends on it.
+// The order of the fields is the faster of those that were timed (docs/SPEED.md); nothing else depends on it.
 pub struct CpuRegisters {
     pub a: u8,
     pub b: u8,
