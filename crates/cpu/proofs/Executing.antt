@@ -8,11 +8,13 @@ use Rattle.sm83.specs.declared.state.Cpu.{Cpu}
 use Rattle.sm83.specs.Execution.{_>>=_, _>>_, give}
 use Rattle.instruction.specs.declared.instruction.Instruction.{Instruction}
 use Rattle.memory.specs.declared.Port.{Port}
-use Rattle.cpu.specs.Leads.{Leads}
-use Rattle.cpu.specs.Mirror.{Made, readOperand, writeOperand, compute, execRow}
-use Rattle.cpu.specs.Runnable.{readable, writable, executable, runnable}
+use Rattle.accesses.specs.Leads.{Leads}
+use Rattle.mirror.specs.Operands.{readOperand, writeOperand}
+use Rattle.mirror.specs.Mirror.{Made, compute, execRow}
+use Rattle.instruction.specs.Operand.{readable, writable}
+use Rattle.mirror.specs.Runnable.{executable, runnable}
 use Rattle.sm83.proofs.Tested.{and-left, and-right}
-use Rattle.cpu.proofs.Leading.{after}
+use Rattle.accesses.proofs.Leading.{after}
 
 module _ (s t u w : Cpu) (port port1 port2 port3 : Port) (m m1 m2 m3 : List ℕ) (i : Instruction) (at v : ℕ) (a : Made) where
   pub executed : Leads (readOperand (i .src)) s port m v t port1 m1 → Leads (compute (i .opcode) at v) t port1 m1 a u port2 m2 → Leads (writeOperand (i .dest) (a .value)) u port2 m2 tt w port3 m3 → Leads (execRow i at) s port m (a .outcome) w port3 m3

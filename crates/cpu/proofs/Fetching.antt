@@ -19,12 +19,12 @@ use Rattle.instruction.specs.declared.instruction.Instruction.{Instruction}
 use Rattle.instruction.specs.Row.{rowOf, prefixedRow}
 use Rattle.memory.specs.declared.Port.{Port}
 use Rattle.memory.specs.World.{world, leads, counted}
-use Rattle.cpu.specs.Leads.{Leads}
-use Rattle.cpu.specs.Mirror.{execRow}
-use Rattle.cpu.specs.Runnable.{runnable}
+use Rattle.accesses.specs.Leads.{Leads}
+use Rattle.mirror.specs.Mirror.{execRow}
+use Rattle.mirror.specs.Runnable.{runnable}
 use Rattle.cpu.specs.Stages.{unbugged, Fetches}
-use Rattle.cpu.proofs.Small.{ByteRegisters}
-use Rattle.cpu.proofs.Bridge.{row-leads, prefixed-row-leads, row-runs, prefixed-row-runs}
+use Rattle.mirror.proofs.Small.{ByteRegisters}
+use Rattle.mirror.proofs.Bridge.{row-leads, prefixed-row-leads, row-runs, prefixed-row-runs}
 
 -- 5. with no branch: IME or the latch
 pub latched : (s : Cpu) → setIme (s .ime || s .latch) (setLatch false s) ≡ enabled s

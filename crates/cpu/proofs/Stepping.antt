@@ -16,7 +16,7 @@ use Rattle.sm83.specs.Step.{Ended, isAsleep, vector, dispatch, instruction, awa
 use Rattle.sm83.proofs.Choices.{if-so, if-not}
 use Rattle.memory.specs.declared.Port.{Port}
 use Rattle.memory.specs.World.{World, world, leads, counted}
-use Rattle.cpu.specs.Leads.{Leads}
+use Rattle.accesses.specs.Leads.{Leads}
 use Rattle.cpu.specs.Stages.{dispatched, rested, Wakes}
 
 -- what is chosen leads where the choice leads

@@ -1,5 +1,2 @@
--- What the code of the processor does, as contracts state it.
-pub mod Leads
-pub mod Mirror
-pub mod Runnable
+-- The stages of a step, as contracts state them.
 pub mod Stages

@@ -15,7 +15,7 @@ use Rattle.sm83.specs.Step.{Ended, isAsleep, isBug, instruction, awake, woken}
 use Rattle.instruction.specs.declared.instruction.Instruction.{Instruction}
 use Rattle.memory.specs.declared.Port.{Port}
 use Rattle.memory.specs.World.{world, leads}
-use Rattle.cpu.specs.Mirror.{execRow}
+use Rattle.mirror.specs.Mirror.{execRow}
 
 -- after the fetch, if HaltBug ends there: PC goes back to `at`
 abbrev pub unbugged : Cpu → ℕ → Cpu

@@ -21,7 +21,7 @@ use Rattle.sm83.proofs.Ranges.{Bytes, InRange, plain-lawful, step-ranges, step-
 use Rattle.memory.specs.declared.Port.{Port}
 use Rattle.memory.specs.World.{Led, world, leads}
 use Rattle.memory.proofs.Counted.{same-value, same-bytes, counts}
-use Rattle.cpu.specs.Leads.{Leads}
+use Rattle.accesses.specs.Leads.{Leads}
 
 -- so many steps and M-cycles more
 abbrev further : ℕ → ℕ → RunAnswer (List ℕ) → RunAnswer (List ℕ)

@@ -9,7 +9,7 @@ ghost use Rattle.sm83.specs.Run.{stopsRun, repeated, notRun, runFor};
 ghost use Rattle.run.specs.Answers.{answer, outcomeOf, Answers};
 use cpu::step::next_instruction;
 use instruction::instructions_table::instructions;
-use instruction::instructions_table::prefixed_instructions;
+use instruction::prefixed_table::prefixed_instructions;
 use memory::Port;
 use sm83::addr::MCycles;
 use sm83::outcome::LastOutcome;

@@ -3,7 +3,7 @@ use borrow.Author.Needs.{needs}
 use mathlib.Core.Path.{sym, subst, _∙_}
 use lib.Dec.{T}
 use Rattle.instruction.specs.declared.instruction.Instruction.{Instruction}
-use Rattle.cpu.specs.Runnable.{runnable}
+use Rattle.mirror.specs.Runnable.{runnable}
 use Rattle.cpu.proofs.Fetching.{executes}
 use Rattle.cpu.proofs.step.run_one.Statement.{statement}
 use Rattle.cpu.proofs.step.run_one.Tie as tie

@@ -1,0 +1,11 @@
+-- Shows the byte at an address: memory's answer, by one law.
+use borrow.Author.Needs.{needs}
+use Rattle.accesses.proofs.Parts.{byte-at}
+use Rattle.accesses.proofs.access.load.Statement.{statement}
+use Rattle.accesses.proofs.access.load.Tie as tie
+
+returns : tie.Need-returns
+returns c = (byte-at _ _ _ _ _ _ _ (c .before .before .before .before .read .ensures .0) (c .before .before .before .before .read .ensures .1) (c .before .before .before .before .read .ensures .2), c .before .before .before .before .read .ensures .3)
+
+pub load-spec : {M : Type 1} → statement M
+load-spec = tie.close (tie.spec (λ c κs. search needs) (λ c. search needs) (λ c. search needs) returns)

@@ -1,0 +1,47 @@
+// Bytes at PC.
+ghost use mathlib.Core.Path.{_≡_};
+ghost use lib.ListN.{length};
+ghost use Rattle.sm83.specs.Execution.{imm8, imm16};
+ghost use Rattle.accesses.specs.Leads.{Leads};
+use crate::answers::Val8;
+use crate::answers::Val16;
+use memory::Port;
+use sm83::registers::pair;
+use sm83::state::Cpu;
+
+pub fn fetch_next_pc(cpu: Cpu, port: Port, mem: &mut [u8]) -> Val8
+    requires { ⌜ length (now mem) ≡ 65536 ⌝ }
+    ensures { λ r. ⌜ Leads imm8 cpu port (now (mem .entry)) (r .value) (r .cpu) (r .port) (now (mem .exit)) × (length (now (mem .exit)) ≡ 65536) ⌝ }
+{
+    let mut regs = cpu.registers;
+    let at = regs.pc;
+    let got = memory::read(port, mem, at);
+    let p = got.port;
+    let after = at.wrapping_add(1);
+    regs.pc = after;
+    let mut s = cpu;
+    s.registers = regs;
+    Val8 {
+        cpu: s,
+        port: p,
+        value: got.value,
+    }
+}
+
+// The low byte first.
+pub fn fetch16(cpu: Cpu, port: Port, mem: &mut [u8]) -> Val16
+    requires { ⌜ length (now mem) ≡ 65536 ⌝ }
+    ensures { λ r. ⌜ Leads imm16 cpu port (now (mem .entry)) (r .value) (r .cpu) (r .port) (now (mem .exit)) × (length (now (mem .exit)) ≡ 65536) ⌝ }
+{
+    let x = fetch_next_pc(cpu, port, mem);
+    let c = x.cpu;
+    let p = x.port;
+    let y = fetch_next_pc(c, p, mem);
+    let d = y.cpu;
+    let q = y.port;
+    Val16 {
+        cpu: d,
+        port: q,
+        value: pair(y.value, x.value),
+    }
+}

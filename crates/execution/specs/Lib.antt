@@ -1,0 +1,2 @@
+-- What the code of an instruction answers, as contracts state it.
+pub mod Worked

@@ -1,0 +1,65 @@
+-- The row of 001's tables for each instruction of the definition leads where the definition leads, from any state and memory of bytes, whatever comes next; and the code can run each of them.
+use mathlib.Core.Path.{_≡_, refl}
+use mathlib.Core.Bool.{Bool, true, false, _&&_, _||_}
+use mathlib.Core.List.{List}
+use Prim.Native.Nat.{ℕ, _<_}
+use lib.Dec.{eqb, T}
+use Rattle.sm83.specs.declared.state.Cpu.{Cpu}
+use Rattle.sm83.specs.declared.outcome.Outcome.{Outcome}
+use Rattle.sm83.specs.Bus.{Ask}
+use Rattle.sm83.specs.Instruction.{does, goes, CB-prefix, HALT, STOP, EI, LD-B-B, ILLEGAL, decode, decodeCB}
+use Rattle.sm83.specs.Instruction as defined
+use Rattle.sm83.specs.Execution.{Does, _>>_, prefixed, normal, execute, executing}
+use Rattle.sm83.specs.Step.{Ended}
+use Rattle.sm83.proofs.Tested.{and-left, and-right, below, at}
+use Rattle.instruction.specs.Row.{rowOf, prefixedRow}
+use Rattle.memory.specs.declared.Port.{Port}
+use Rattle.memory.specs.World.{world, leads}
+use Rattle.mirror.specs.Mirror.{execRow, mirroring}
+use Rattle.mirror.specs.Runnable.{runnable}
+use Rattle.sm83.proofs.Ranges.{Bytes}
+use Rattle.mirror.proofs.Small.{ByteRegisters}
+use Rattle.mirror.proofs.BridgeWork.{work-row}
+use Rattle.mirror.proofs.BridgeJump.{jump-row}
+use Rattle.mirror.proofs.BridgePrefixed.{decoded-one-of-eight, prefixed-row}
+
+-- all but the prefix, which the byte after it explains
+abbrev pub unprefixed : defined.Instruction → Bool
+unprefixed (does w) = true
+unprefixed (goes j) = true
+unprefixed CB-prefix = false
+unprefixed HALT = true
+unprefixed STOP = true
+unprefixed EI = true
+unprefixed LD-B-B = true
+unprefixed ILLEGAL = true
+
+module _ (m : List ℕ) (bytes : Bytes m) (at-pc : ℕ) (s : Cpu) (regs : ByteRegisters (s .registers)) (k : Outcome → Cpu → Ask Ended) (port : Port) where
+  pub row-leads : (i : defined.Instruction) → T (unprefixed i) → leads (execRow (rowOf i) at-pc s k) (world port m) ≡ leads (execute at-pc i s k) (world port m)
+  unfolding executing mirroring leads
+  row-leads (does w) h = work-row m bytes at-pc s regs k w port
+  row-leads (goes j) h = jump-row at-pc s k j (world port m)
+  row-leads CB-prefix h = absurd h
+  row-leads HALT h = refl
+  row-leads STOP h = refl
+  row-leads EI h = refl
+  row-leads LD-B-B h = refl
+  row-leads ILLEGAL h = refl
+
+  pub prefixed-row-leads : (b : ℕ) → leads (execRow (prefixedRow (decodeCB b)) at-pc s k) (world port m) ≡ leads ((do prefixed (decodeCB b); normal) s k) (world port m)
+  prefixed-row-leads b = prefixed-row m bytes at-pc s regs k (decodeCB b) (decoded-one-of-eight b) port
+
+-- Each byte but CB is a row that the code can run, and each byte after CB: computed.
+
+rows-tested : T (below (λ b. eqb b 0xcb || (unprefixed (decode b) && runnable (rowOf (decode b)))) 256)
+unfolding decode
+rows-tested = tt
+
+pub row-runs : (b : ℕ) → b < 256 → eqb b 0xcb ≡ false → T (unprefixed (decode b)) × T (runnable (rowOf (decode b)))
+row-runs b small e =
+    let t : T (unprefixed (decode b) && runnable (rowOf (decode b))) = rw e at (at (λ b. eqb b 0xcb || (unprefixed (decode b) && runnable (rowOf (decode b)))) 256 rows-tested b small) in
+    (and-left (unprefixed (decode b)) _ t, and-right (unprefixed (decode b)) _ t)
+
+pub prefixed-row-runs : (b : ℕ) → b < 256 → T (runnable (prefixedRow (decodeCB b)))
+unfolding decodeCB
+prefixed-row-runs = at (λ b. runnable (prefixedRow (decodeCB b))) 256 tt

@@ -1,0 +1,55 @@
+-- An r8 operand: 001 reads and writes it as the definition does, if what is read and written are bytes. One law for reading and one for writing, whatever comes next.
+use mathlib.Core.Path.{_≡_, refl, ap, _∙_}
+use mathlib.Core.List.{List}
+use Prim.Native.Nat.{ℕ, _<_}
+use Rattle.sm83.specs.declared.state.Cpu.{Cpu}
+use Rattle.sm83.specs.Basics.{lowByte}
+use Rattle.sm83.specs.Bus.{Ask}
+use Rattle.sm83.specs.State.{pairHL, flags, setF}
+use Rattle.sm83.specs.Arithmetic.{Result}
+use Rattle.sm83.specs.Instruction.{Reg8, rB, rC, rD, rE, rH, rL, [HL], rA}
+use Rattle.sm83.specs.Execution.{get8, put8, into8}
+use Rattle.sm83.specs.Step.{Ended}
+use Rattle.instruction.specs.Row.{operand8}
+use Rattle.memory.specs.declared.Port.{Port}
+use Rattle.memory.specs.World.{world, leads, counted}
+use Rattle.mirror.specs.Operands.{readOperand, writeOperand}
+use Rattle.mirror.specs.Mirror.{mirroring}
+use Rattle.sm83.proofs.Ranges.{Bytes}
+use Rattle.mirror.proofs.Small.{ByteRegisters, kept}
+
+-- equal trees lead to equal ends
+pub on : (m : List ℕ) (port : Port) {p q : Ask Ended} → p ≡ q → leads p (world port m) ≡ leads q (world port m)
+on m port e = ap (λ (t : Ask Ended). leads t (world port m)) e
+
+module _ (m : List ℕ) (bytes : Bytes m) (s : Cpu) (regs : ByteRegisters (s .registers)) (k j : ℕ → Cpu → Ask Ended) (same : (v : ℕ) (port : Port) → v < 256 → leads (k v s) (world port m) ≡ leads (j v s) (world port m)) where
+  pub reads : (r : Reg8) (port : Port) → leads (readOperand (operand8 r) s k) (world port m) ≡ leads (get8 r s j) (world port m)
+  unfolding leads mirroring get8
+  reads rB port = same (s .registers .b) port (regs .small-b)
+  reads rC port = same (s .registers .c) port (regs .small-c)
+  reads rD port = same (s .registers .d) port (regs .small-d)
+  reads rE port = same (s .registers .e) port (regs .small-e)
+  reads rH port = same (s .registers .h) port (regs .small-h)
+  reads rL port = same (s .registers .l) port (regs .small-l)
+  reads [HL] port = same _ (counted port) (bytes (pairHL (s .registers)))
+  reads rA port = same (s .registers .a) port (regs .small-a)
+
+writes-low : (r : Reg8) (v : ℕ) (s : Cpu) (k : Unit {0} → Cpu → Ask Ended) → writeOperand (operand8 r) v s k ≡ put8 r (lowByte v) s k
+unfolding mirroring put8
+writes-low rB v s k = refl
+writes-low rC v s k = refl
+writes-low rD v s k = refl
+writes-low rE v s k = refl
+writes-low rH v s k = refl
+writes-low rL v s k = refl
+writes-low [HL] v s k = refl
+writes-low rA v s k = refl
+
+pub writes : (r : Reg8) (v : ℕ) (s : Cpu) (k : Unit {0} → Cpu → Ask Ended) → v < 256 → writeOperand (operand8 r) v s k ≡ put8 r v s k
+writes r v s k h = writes-low r v s k ∙ ap (λ (x : ℕ). put8 r x s k) (kept h)
+
+-- what an operation makes of a byte and F, into F and the operand
+pub written : (op : ℕ → ℕ → Result) (r : Reg8) (v : ℕ) (s : Cpu) (k : Unit {0} → Cpu → Ask Ended) → v < 256 → op v (flags s) .value < 256 →
+    writeOperand (operand8 r) (op (lowByte v) (flags s) .value) (setF (op (lowByte v) (flags s) .flags) s) k ≡ into8 r (op v (flags s)) s k
+written op r v s k small small-result =
+    ap (λ (x : ℕ). writeOperand (operand8 r) (op x (flags s) .value) (setF (op x (flags s) .flags) s) k) (kept small) ∙ writes r (op v (flags s) .value) (setF (op v (flags s) .flags) s) k small-result

@@ -1,0 +1,7 @@
+-- The rows of 001's tables lead where the definition leads.
+pub mod Small
+pub mod Bridge8
+pub mod BridgeWork
+pub mod BridgeJump
+pub mod BridgePrefixed
+pub mod Bridge

@@ -1,0 +1,220 @@
+// Where a result goes.
+ghost use mathlib.Core.Path.{_≡_};
+ghost use lib.Dec.{T};
+ghost use lib.ListN.{length};
+ghost use Rattle.instruction.specs.declared.operand.OperandType.the-variants.{AddrHL, AddrHLDec, AddrHLInc, AddrBC, AddrDE, HighAddr8, HighAddrC, Addr16, Addr16Val16};
+ghost use Rattle.accesses.specs.Leads.{Leads};
+ghost use Rattle.mirror.specs.Operands.{writeOperand};
+ghost use Rattle.instruction.specs.Operand.{writable};
+use accesses::access::high;
+use accesses::access::store;
+use accesses::answers::Both;
+use accesses::answers::with_registers;
+use accesses::fetch::fetch_next_pc;
+use accesses::fetch::fetch16;
+use instruction::operand::OperandType;
+use memory::Port;
+use sm83::addr::Addr;
+use sm83::state::Cpu;
+
+fn write_hl(cpu: Cpu, port: Port, value: u16, mem: &mut [u8]) -> Both
+    requires { ⌜ length (now mem) ≡ 65536 ⌝ }
+    ensures { λ r. ⌜ Leads (writeOperand AddrHL value) cpu port (now (mem .entry)) tt (r .cpu) (r .port) (now (mem .exit)) × (length (now (mem .exit)) ≡ 65536) ⌝ }
+{
+    let regs = cpu.registers;
+    store(
+        cpu,
+        port,
+        Addr(regs.reg_hl_read()),
+        (value % 256) as u8,
+        mem,
+    )
+}
+
+fn write_bc(cpu: Cpu, port: Port, value: u16, mem: &mut [u8]) -> Both
+    requires { ⌜ length (now mem) ≡ 65536 ⌝ }
+    ensures { λ r. ⌜ Leads (writeOperand AddrBC value) cpu port (now (mem .entry)) tt (r .cpu) (r .port) (now (mem .exit)) × (length (now (mem .exit)) ≡ 65536) ⌝ }
+{
+    let regs = cpu.registers;
+    store(
+        cpu,
+        port,
+        Addr(regs.reg_bc_read()),
+        (value % 256) as u8,
+        mem,
+    )
+}
+
+fn write_de(cpu: Cpu, port: Port, value: u16, mem: &mut [u8]) -> Both
+    requires { ⌜ length (now mem) ≡ 65536 ⌝ }
+    ensures { λ r. ⌜ Leads (writeOperand AddrDE value) cpu port (now (mem .entry)) tt (r .cpu) (r .port) (now (mem .exit)) × (length (now (mem .exit)) ≡ 65536) ⌝ }
+{
+    let regs = cpu.registers;
+    store(
+        cpu,
+        port,
+        Addr(regs.reg_de_read()),
+        (value % 256) as u8,
+        mem,
+    )
+}
+
+fn write_high_c(cpu: Cpu, port: Port, value: u16, mem: &mut [u8]) -> Both
+    requires { ⌜ length (now mem) ≡ 65536 ⌝ }
+    ensures { λ r. ⌜ Leads (writeOperand HighAddrC value) cpu port (now (mem .entry)) tt (r .cpu) (r .port) (now (mem .exit)) × (length (now (mem .exit)) ≡ 65536) ⌝ }
+{
+    let regs = cpu.registers;
+    store(cpu, port, high(regs.c), (value % 256) as u8, mem)
+}
+
+fn write_hl_dec(cpu: Cpu, port: Port, value: u16, mem: &mut [u8]) -> Both
+    requires { ⌜ length (now mem) ≡ 65536 ⌝ }
+    ensures { λ r. ⌜ Leads (writeOperand AddrHLDec value) cpu port (now (mem .entry)) tt (r .cpu) (r .port) (now (mem .exit)) × (length (now (mem .exit)) ≡ 65536) ⌝ }
+{
+    let regs = cpu.registers;
+    let hl = Addr(regs.reg_hl_read());
+    let p = memory::write(port, mem, hl, (value % 256) as u8);
+    let after = hl.wrapping_sub(1);
+    let s = with_registers(cpu, regs.reg_hl_write(after.0));
+    Both { cpu: s, port: p }
+}
+
+fn write_hl_inc(cpu: Cpu, port: Port, value: u16, mem: &mut [u8]) -> Both
+    requires { ⌜ length (now mem) ≡ 65536 ⌝ }
+    ensures { λ r. ⌜ Leads (writeOperand AddrHLInc value) cpu port (now (mem .entry)) tt (r .cpu) (r .port) (now (mem .exit)) × (length (now (mem .exit)) ≡ 65536) ⌝ }
+{
+    let regs = cpu.registers;
+    let hl = Addr(regs.reg_hl_read());
+    let p = memory::write(port, mem, hl, (value % 256) as u8);
+    let after = hl.wrapping_add(1);
+    let s = with_registers(cpu, regs.reg_hl_write(after.0));
+    Both { cpu: s, port: p }
+}
+
+fn write_high(cpu: Cpu, port: Port, value: u16, mem: &mut [u8]) -> Both
+    requires { ⌜ length (now mem) ≡ 65536 ⌝ }
+    ensures { λ r. ⌜ Leads (writeOperand HighAddr8 value) cpu port (now (mem .entry)) tt (r .cpu) (r .port) (now (mem .exit)) × (length (now (mem .exit)) ≡ 65536) ⌝ }
+{
+    let x = fetch_next_pc(cpu, port, mem);
+    let s = x.cpu;
+    let p = x.port;
+    store(s, p, high(x.value), (value % 256) as u8, mem)
+}
+
+fn write_at16(cpu: Cpu, port: Port, value: u16, mem: &mut [u8]) -> Both
+    requires { ⌜ length (now mem) ≡ 65536 ⌝ }
+    ensures { λ r. ⌜ Leads (writeOperand Addr16 value) cpu port (now (mem .entry)) tt (r .cpu) (r .port) (now (mem .exit)) × (length (now (mem .exit)) ≡ 65536) ⌝ }
+{
+    let x = fetch16(cpu, port, mem);
+    let s = x.cpu;
+    let p = x.port;
+    store(s, p, Addr(x.value), (value % 256) as u8, mem)
+}
+
+// The low byte first.
+fn write_word_at16(cpu: Cpu, port: Port, value: u16, mem: &mut [u8]) -> Both
+    requires { ⌜ length (now mem) ≡ 65536 ⌝ }
+    ensures { λ r. ⌜ Leads (writeOperand Addr16Val16 value) cpu port (now (mem .entry)) tt (r .cpu) (r .port) (now (mem .exit)) × (length (now (mem .exit)) ≡ 65536) ⌝ }
+{
+    let x = fetch16(cpu, port, mem);
+    let s = x.cpu;
+    let p = x.port;
+    let a = Addr(x.value);
+    let q = memory::write(p, mem, a, (value % 256) as u8);
+    store(s, q, a.wrapping_add(1), (value / 256) as u8, mem)
+}
+
+// For an operand that is never written: no call of this is ever reached.
+fn never_written(cpu: Cpu, port: Port) -> Both
+    requires { ⌜ ⊥ ⌝ }
+    ensures { λ r. ⌜ ⊥ ⌝ }
+{
+    Both {
+        cpu: cpu,
+        port: port,
+    }
+}
+
+pub fn write_operand(cpu: Cpu, port: Port, ty: OperandType, value: u16, mem: &mut [u8]) -> Both
+    requires { ⌜ length (now mem) ≡ 65536 ⌝ }
+    requires { ⌜ T (writable ty) ⌝ }
+    ensures { λ r. ⌜ Leads (writeOperand ty value) cpu port (now (mem .entry)) tt (r .cpu) (r .port) (now (mem .exit)) × (length (now (mem .exit)) ≡ 65536) ⌝ }
+{
+    let mut regs = cpu.registers;
+    let low = (value % 256) as u8;
+    match ty {
+        OperandType::RegA => {
+            regs.a = low;
+            let s = with_registers(cpu, regs);
+            Both { cpu: s, port: port }
+        }
+        OperandType::RegB => {
+            regs.b = low;
+            let s = with_registers(cpu, regs);
+            Both { cpu: s, port: port }
+        }
+        OperandType::RegC => {
+            regs.c = low;
+            let s = with_registers(cpu, regs);
+            Both { cpu: s, port: port }
+        }
+        OperandType::RegD => {
+            regs.d = low;
+            let s = with_registers(cpu, regs);
+            Both { cpu: s, port: port }
+        }
+        OperandType::RegE => {
+            regs.e = low;
+            let s = with_registers(cpu, regs);
+            Both { cpu: s, port: port }
+        }
+        OperandType::RegH => {
+            regs.h = low;
+            let s = with_registers(cpu, regs);
+            Both { cpu: s, port: port }
+        }
+        OperandType::RegL => {
+            regs.l = low;
+            let s = with_registers(cpu, regs);
+            Both { cpu: s, port: port }
+        }
+        OperandType::AddrHL => write_hl(cpu, port, value, mem),
+        OperandType::AddrHLDec => write_hl_dec(cpu, port, value, mem),
+        OperandType::AddrHLInc => write_hl_inc(cpu, port, value, mem),
+        OperandType::AddrBC => write_bc(cpu, port, value, mem),
+        OperandType::AddrDE => write_de(cpu, port, value, mem),
+        OperandType::RegAF => {
+            let s = with_registers(cpu, regs.reg_af_write(value));
+            Both { cpu: s, port: port }
+        }
+        OperandType::RegBC => {
+            let s = with_registers(cpu, regs.reg_bc_write(value));
+            Both { cpu: s, port: port }
+        }
+        OperandType::RegDE => {
+            let s = with_registers(cpu, regs.reg_de_write(value));
+            Both { cpu: s, port: port }
+        }
+        OperandType::RegHL => {
+            let s = with_registers(cpu, regs.reg_hl_write(value));
+            Both { cpu: s, port: port }
+        }
+        OperandType::RegSP => {
+            let sp = Addr(value);
+            regs.sp = sp;
+            let s = with_registers(cpu, regs);
+            Both { cpu: s, port: port }
+        }
+        OperandType::Imm8 => never_written(cpu, port),
+        OperandType::Imm8Signed => never_written(cpu, port),
+        OperandType::Imm16 => never_written(cpu, port),
+        OperandType::HighAddr8 => write_high(cpu, port, value, mem),
+        OperandType::HighAddrC => write_high_c(cpu, port, value, mem),
+        OperandType::Addr16 => write_at16(cpu, port, value, mem),
+        OperandType::Addr16Val16 => write_word_at16(cpu, port, value, mem),
+        OperandType::Implied => Both {
+            cpu: cpu,
+            port: port,
+        },
+    }
+}

@@ -1,0 +1,233 @@
+// Where an operand comes from.
+ghost use mathlib.Core.Path.{_≡_};
+ghost use lib.Dec.{T};
+ghost use lib.ListN.{length};
+ghost use Rattle.sm83.specs.Execution.{imm8};
+ghost use Rattle.instruction.specs.declared.operand.OperandType.the-variants.{AddrHL, AddrHLDec, AddrHLInc, AddrBC, AddrDE, Imm8Signed, HighAddr8, HighAddrC, Addr16};
+ghost use Rattle.accesses.specs.Leads.{Leads};
+ghost use Rattle.mirror.specs.Operands.{readOperand};
+ghost use Rattle.instruction.specs.Operand.{readable};
+use accesses::access::high;
+use accesses::access::load;
+use accesses::answers::Val16;
+use accesses::answers::with_registers;
+use accesses::fetch::fetch_next_pc;
+use accesses::fetch::fetch16;
+use alu::words::sign_extended;
+use instruction::operand::OperandType;
+use memory::Port;
+use sm83::addr::Addr;
+use sm83::state::Cpu;
+
+fn read_hl(cpu: Cpu, port: Port, mem: &mut [u8]) -> Val16
+    requires { ⌜ length (now mem) ≡ 65536 ⌝ }
+    ensures { λ r. ⌜ Leads (readOperand AddrHL) cpu port (now (mem .entry)) (r .value) (r .cpu) (r .port) (now (mem .exit)) × (length (now (mem .exit)) ≡ 65536) ⌝ }
+{
+    let regs = cpu.registers;
+    load(cpu, port, Addr(regs.reg_hl_read()), mem)
+}
+
+fn read_bc(cpu: Cpu, port: Port, mem: &mut [u8]) -> Val16
+    requires { ⌜ length (now mem) ≡ 65536 ⌝ }
+    ensures { λ r. ⌜ Leads (readOperand AddrBC) cpu port (now (mem .entry)) (r .value) (r .cpu) (r .port) (now (mem .exit)) × (length (now (mem .exit)) ≡ 65536) ⌝ }
+{
+    let regs = cpu.registers;
+    load(cpu, port, Addr(regs.reg_bc_read()), mem)
+}
+
+fn read_de(cpu: Cpu, port: Port, mem: &mut [u8]) -> Val16
+    requires { ⌜ length (now mem) ≡ 65536 ⌝ }
+    ensures { λ r. ⌜ Leads (readOperand AddrDE) cpu port (now (mem .entry)) (r .value) (r .cpu) (r .port) (now (mem .exit)) × (length (now (mem .exit)) ≡ 65536) ⌝ }
+{
+    let regs = cpu.registers;
+    load(cpu, port, Addr(regs.reg_de_read()), mem)
+}
+
+fn read_high_c(cpu: Cpu, port: Port, mem: &mut [u8]) -> Val16
+    requires { ⌜ length (now mem) ≡ 65536 ⌝ }
+    ensures { λ r. ⌜ Leads (readOperand HighAddrC) cpu port (now (mem .entry)) (r .value) (r .cpu) (r .port) (now (mem .exit)) × (length (now (mem .exit)) ≡ 65536) ⌝ }
+{
+    let regs = cpu.registers;
+    load(cpu, port, high(regs.c), mem)
+}
+
+fn read_hl_dec(cpu: Cpu, port: Port, mem: &mut [u8]) -> Val16
+    requires { ⌜ length (now mem) ≡ 65536 ⌝ }
+    ensures { λ r. ⌜ Leads (readOperand AddrHLDec) cpu port (now (mem .entry)) (r .value) (r .cpu) (r .port) (now (mem .exit)) × (length (now (mem .exit)) ≡ 65536) ⌝ }
+{
+    let regs = cpu.registers;
+    let hl = Addr(regs.reg_hl_read());
+    let got = memory::read(port, mem, hl);
+    let p = got.port;
+    let after = hl.wrapping_sub(1);
+    let s = with_registers(cpu, regs.reg_hl_write(after.0));
+    Val16 {
+        cpu: s,
+        port: p,
+        value: got.value as u16,
+    }
+}
+
+fn read_hl_inc(cpu: Cpu, port: Port, mem: &mut [u8]) -> Val16
+    requires { ⌜ length (now mem) ≡ 65536 ⌝ }
+    ensures { λ r. ⌜ Leads (readOperand AddrHLInc) cpu port (now (mem .entry)) (r .value) (r .cpu) (r .port) (now (mem .exit)) × (length (now (mem .exit)) ≡ 65536) ⌝ }
+{
+    let regs = cpu.registers;
+    let hl = Addr(regs.reg_hl_read());
+    let got = memory::read(port, mem, hl);
+    let p = got.port;
+    let after = hl.wrapping_add(1);
+    let s = with_registers(cpu, regs.reg_hl_write(after.0));
+    Val16 {
+        cpu: s,
+        port: p,
+        value: got.value as u16,
+    }
+}
+
+fn read_imm8(cpu: Cpu, port: Port, mem: &mut [u8]) -> Val16
+    requires { ⌜ length (now mem) ≡ 65536 ⌝ }
+    ensures { λ r. ⌜ Leads imm8 cpu port (now (mem .entry)) (r .value) (r .cpu) (r .port) (now (mem .exit)) × (length (now (mem .exit)) ≡ 65536) ⌝ }
+{
+    let x = fetch_next_pc(cpu, port, mem);
+    let s = x.cpu;
+    let p = x.port;
+    Val16 {
+        cpu: s,
+        port: p,
+        value: x.value as u16,
+    }
+}
+
+fn read_signed(cpu: Cpu, port: Port, mem: &mut [u8]) -> Val16
+    requires { ⌜ length (now mem) ≡ 65536 ⌝ }
+    ensures { λ r. ⌜ Leads (readOperand Imm8Signed) cpu port (now (mem .entry)) (r .value) (r .cpu) (r .port) (now (mem .exit)) × (length (now (mem .exit)) ≡ 65536) ⌝ }
+{
+    let x = fetch_next_pc(cpu, port, mem);
+    let s = x.cpu;
+    let p = x.port;
+    Val16 {
+        cpu: s,
+        port: p,
+        value: sign_extended(x.value),
+    }
+}
+
+fn read_high(cpu: Cpu, port: Port, mem: &mut [u8]) -> Val16
+    requires { ⌜ length (now mem) ≡ 65536 ⌝ }
+    ensures { λ r. ⌜ Leads (readOperand HighAddr8) cpu port (now (mem .entry)) (r .value) (r .cpu) (r .port) (now (mem .exit)) × (length (now (mem .exit)) ≡ 65536) ⌝ }
+{
+    let x = fetch_next_pc(cpu, port, mem);
+    let s = x.cpu;
+    let p = x.port;
+    load(s, p, high(x.value), mem)
+}
+
+fn read_at16(cpu: Cpu, port: Port, mem: &mut [u8]) -> Val16
+    requires { ⌜ length (now mem) ≡ 65536 ⌝ }
+    ensures { λ r. ⌜ Leads (readOperand Addr16) cpu port (now (mem .entry)) (r .value) (r .cpu) (r .port) (now (mem .exit)) × (length (now (mem .exit)) ≡ 65536) ⌝ }
+{
+    let x = fetch16(cpu, port, mem);
+    let s = x.cpu;
+    let p = x.port;
+    load(s, p, Addr(x.value), mem)
+}
+
+// For an operand that is never read: no call of this is ever reached.
+fn never_read(cpu: Cpu, port: Port) -> Val16
+    requires { ⌜ ⊥ ⌝ }
+    ensures { λ r. ⌜ ⊥ ⌝ }
+{
+    Val16 {
+        cpu: cpu,
+        port: port,
+        value: 0,
+    }
+}
+
+pub fn read_operand(cpu: Cpu, port: Port, ty: OperandType, mem: &mut [u8]) -> Val16
+    requires { ⌜ length (now mem) ≡ 65536 ⌝ }
+    requires { ⌜ T (readable ty) ⌝ }
+    ensures { λ r. ⌜ Leads (readOperand ty) cpu port (now (mem .entry)) (r .value) (r .cpu) (r .port) (now (mem .exit)) × (length (now (mem .exit)) ≡ 65536) ⌝ }
+{
+    let regs = cpu.registers;
+    match ty {
+        OperandType::RegA => Val16 {
+            cpu: cpu,
+            port: port,
+            value: regs.a as u16,
+        },
+        OperandType::RegB => Val16 {
+            cpu: cpu,
+            port: port,
+            value: regs.b as u16,
+        },
+        OperandType::RegC => Val16 {
+            cpu: cpu,
+            port: port,
+            value: regs.c as u16,
+        },
+        OperandType::RegD => Val16 {
+            cpu: cpu,
+            port: port,
+            value: regs.d as u16,
+        },
+        OperandType::RegE => Val16 {
+            cpu: cpu,
+            port: port,
+            value: regs.e as u16,
+        },
+        OperandType::RegH => Val16 {
+            cpu: cpu,
+            port: port,
+            value: regs.h as u16,
+        },
+        OperandType::RegL => Val16 {
+            cpu: cpu,
+            port: port,
+            value: regs.l as u16,
+        },
+        OperandType::AddrHL => read_hl(cpu, port, mem),
+        OperandType::AddrHLDec => read_hl_dec(cpu, port, mem),
+        OperandType::AddrHLInc => read_hl_inc(cpu, port, mem),
+        OperandType::AddrBC => read_bc(cpu, port, mem),
+        OperandType::AddrDE => read_de(cpu, port, mem),
+        OperandType::RegAF => Val16 {
+            cpu: cpu,
+            port: port,
+            value: regs.reg_af_read(),
+        },
+        OperandType::RegBC => Val16 {
+            cpu: cpu,
+            port: port,
+            value: regs.reg_bc_read(),
+        },
+        OperandType::RegDE => Val16 {
+            cpu: cpu,
+            port: port,
+            value: regs.reg_de_read(),
+        },
+        OperandType::RegHL => Val16 {
+            cpu: cpu,
+            port: port,
+            value: regs.reg_hl_read(),
+        },
+        OperandType::RegSP => Val16 {
+            cpu: cpu,
+            port: port,
+            value: regs.sp.0,
+        },
+        OperandType::Imm8 => read_imm8(cpu, port, mem),
+        OperandType::Imm8Signed => read_signed(cpu, port, mem),
+        OperandType::Imm16 => fetch16(cpu, port, mem),
+        OperandType::HighAddr8 => read_high(cpu, port, mem),
+        OperandType::HighAddrC => read_high_c(cpu, port, mem),
+        OperandType::Addr16 => read_at16(cpu, port, mem),
+        OperandType::Addr16Val16 => never_read(cpu, port),
+        OperandType::Implied => Val16 {
+            cpu: cpu,
+            port: port,
+            value: 0,
+        },
+    }
+}
