@@ -157,9 +157,9 @@ module _ (s : Cpu) (port : Port) (m : List ℕ) (r : Worked) (code : Opcode) (at
   jumps-to-hl = by _ op.JpHL (λ k. refl)
 
   -- the state with PC back at the instruction
-  pub refuses : (t : Cpu) → code ≡ op.Illegal → t ≡ setPC at s → r ≡ worked t port 0 (Refused IllegalOpcode) → Leads (compute code at v) s port m (madeBy r) (r .cpu) (r .port) m
+  pub refuses : code ≡ op.Illegal → r ≡ worked (setPC at s) port 0 (Refused IllegalOpcode) → Leads (compute code at v) s port m (madeBy r) (r .cpu) (r .port) m
   unfolding compute
-  refuses t e e' e'' = by (worked (setPC at s) port 0 (Refused IllegalOpcode)) op.Illegal (λ k. refl) e (e'' ∙ ap (λ (x : Cpu). worked x port 0 (Refused IllegalOpcode)) e')
+  refuses = by (worked (setPC at s) port 0 (Refused IllegalOpcode)) op.Illegal (λ k. refl)
 
   -- a result: its flags into F, its value on
   module _ (x : Computed) where

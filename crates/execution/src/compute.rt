@@ -8,6 +8,7 @@ ghost use Rattle.execution.specs.Worked.{madeBy};
 ghost use Rattle.mirror.specs.Runnable.{executable};
 use crate::answers::Worked;
 use crate::halt::halt;
+use crate::illegal::illegal;
 use crate::jumps::call;
 use crate::jumps::call_to;
 use crate::jumps::jp;
@@ -26,7 +27,6 @@ use crate::words::ld_sp_hl;
 use crate::words::pop_word;
 use crate::words::push_word;
 use crate::words::slowly;
-use accesses::answers::with_registers;
 use alu::bits::bit;
 use alu::bits::res;
 use alu::bits::set;
@@ -61,7 +61,6 @@ use instruction::opcode::Opcode;
 use memory::Port;
 use sm83::addr::Addr;
 use sm83::outcome::Outcome;
-use sm83::outcome::Refusal;
 use sm83::state::Cpu;
 
 // For an opcode that is never executed: no call of this is ever reached.
@@ -78,7 +77,7 @@ pub fn compute(cpu: Cpu, port: Port, opcode: Opcode, src: u16, at: Addr, mem: &m
     ensures { λ r. ⌜ Leads (compute opcode (at .0) src) cpu port (now (mem .entry)) (madeBy r) (r .cpu) (r .port) (now (mem .exit)) × (length (now (mem .exit)) ≡ 65536) ⌝ }
 {
     let mut s = cpu;
-    let mut regs = cpu.registers;
+    let regs = cpu.registers;
     let a = regs.a;
     let f = regs.f;
     let x = (src % 256) as u8;
@@ -149,14 +148,6 @@ pub fn compute(cpu: Cpu, port: Port, opcode: Opcode, src: u16, at: Addr, mem: &m
         Opcode::Bit(n) => with_flags(cpu, port, bit(n, x, f), 0),
         Opcode::Res(n) => plain(cpu, port, res(n, x) as u16),
         Opcode::Set(n) => plain(cpu, port, set(n, x) as u16),
-        Opcode::Illegal => {
-            regs.pc = at;
-            Worked {
-                cpu: with_registers(cpu, regs),
-                port: port,
-                value: 0,
-                outcome: Outcome::Refused(Refusal::IllegalOpcode),
-            }
-        }
+        Opcode::Illegal => illegal(cpu, port, at),
     }
 }

@@ -2,6 +2,7 @@
 pub mod answers;
 pub mod compute;
 pub mod halt;
+pub mod illegal;
 pub mod jumps;
 pub mod results;
 pub mod words;

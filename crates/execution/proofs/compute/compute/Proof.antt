@@ -163,7 +163,7 @@ at-set : tie.Need-returns-52
 at-set c = (raises _ _ _ _ _ _ _ _ _ (c .before .before .before .before .before .before .before .pre .1) (c .before .before .before .opcode8 .given .1) (c .before .set .ensures) (c .plain7 .ensures), c .before .before .before .before .before .before .before .pre .0)
 
 at-illegal : tie.Need-returns-53
-at-illegal c = (refuses _ _ _ _ _ _ _ _ (c .before .enum-told45 .given .1) (c .with-registers .ensures) refl, c .before .before .before .before .before .pre .0)
+at-illegal c = (refuses _ _ _ _ _ _ _ (c .before .enum-told45 .given .1) (c .illegal .ensures), c .before .before .before .before .before .pre .0)
 
 pub compute-spec : {M : Type 1} → statement M
 compute-spec = tie.close (tie.spec (λ c. search needs) (λ c. search needs) (λ c κs. search needs) (λ c. search needs) (λ c κs. search needs) (λ c. search needs) (λ c κs. search needs) (λ c. search needs) (λ c κs. search needs) (λ c. search needs) (λ c κs. search needs) (λ c. search needs) (λ c κs. search needs) (λ c. search needs) (λ c. search needs) (λ c κs. search needs) (λ c. search needs) (λ c κs. search needs) (λ c. search needs) (λ c κs. search needs) (λ c κs. search needs) (λ c. search needs) (λ c κs. search needs) (λ c κs. search needs) (λ c. search needs) (λ c κs. search needs) (λ c κs. search needs) (λ c. search needs) (λ c κs. search needs) (λ c κs. search needs) (λ c. search needs) (λ c κs. search needs) (λ c κs. search needs) (λ c. search needs) (λ c κs. search needs) (λ c. search needs) (λ c κs. search needs) (λ c. search needs) (λ c κs. search needs) (λ c κs. search needs) (λ c. search needs) (λ c κs. search needs) (λ c. search needs) (λ c κs. search needs) (λ c. search needs) (λ c κs. search needs) (λ c κs. search needs) (λ c. search needs) (λ c κs. search needs) (λ c κs. search needs) (λ c. search needs) (λ c κs. search needs) (λ c κs. search needs) (λ c. search needs) (λ c κs. search needs) (λ c κs. search needs) (λ c. search needs) (λ c κs. search needs) (λ c κs. search needs) (λ c. search needs) (λ c κs. search needs) (λ c. search needs) (λ c κs. search needs) (λ c. search needs) (λ c κs. search needs) (λ c. search needs) (λ c κs. search needs) (λ c. search needs) (λ c κs. search needs) (λ c. search needs) (λ c κs. search needs) (λ c. search needs) (λ c. search needs) (λ c κs. search needs) (λ c. search needs) (λ c κs. search needs) (λ c. search needs) (λ c κs. search needs) (λ c. search needs) (λ c κs. search needs) (λ c κs. search needs) (λ c. search needs) (λ c κs. search needs) (λ c κs. search needs) (λ c. search needs) (λ c κs. search needs) (λ c κs. search needs) (λ c. search needs) (λ c κs. search needs) (λ c κs. search needs) (λ c. search needs) (λ c κs. search needs) (λ c κs. search needs) (λ c. search needs) (λ c κs. search needs) (λ c κs. search needs) (λ c. search needs) (λ c κs. search needs) (λ c κs. search needs) (λ c. search needs) (λ c κs. search needs) (λ c κs. search needs) (λ c. search needs) prefix-never (λ c. search needs) (λ c κs. search needs) (λ c κs. search needs) (λ c. search needs) (λ c κs. search needs) (λ c κs. search needs) (λ c. search needs) (λ c κs. search needs) (λ c κs. search needs) (λ c. search needs) (λ c κs. search needs) (λ c κs. search needs) (λ c. search needs) (λ c κs. search needs) (λ c κs. search needs) (λ c. search needs) (λ c κs. search needs) (λ c κs. search needs) (λ c. search needs) (λ c κs. search needs) (λ c κs. search needs) (λ c. search needs) (λ c κs. search needs) (λ c κs. search needs) (λ c. search needs) (λ c κs. search needs) (λ c κs. search needs) (λ c. search needs) (λ c κs. search needs) (λ c. search needs) (λ c κs. search needs) (λ c. search needs) (λ c κs. search needs) (λ c. search needs) (λ c κs. search needs) (λ c. search needs) (λ c κs. search needs) at-nop at-stop (λ c. search needs) at-halt at-ld (λ c. search needs) at-ldsphl (λ c. search needs) at-ldhlspsigned8 at-ldbb (λ c. search needs) at-push (λ c. search needs) at-pop at-inc (λ c. search needs) at-inc16 at-dec (λ c. search needs) at-dec16 at-add (λ c. search needs) at-add16 (λ c. search needs) at-addspsigned8 at-adc at-cp at-sub at-sbc at-and at-xor at-or (λ c. search needs) at-jp at-jphl (λ c. search needs) at-jr (λ c. search needs) at-call (λ c. search needs) at-ret (λ c. search needs) at-reti (λ c. search needs) at-rst at-di at-ei at-ccf at-scf at-daa at-cpl at-rlca at-rla at-rrca at-rra (λ c. search needs) at-rlc at-rrc at-rl at-rr at-sla at-sra at-swap at-srl at-bit at-res at-set at-illegal)
