@@ -1,7 +1,7 @@
 /* phkarotuk.h: the proved SM83 core for C (C99) and C++.
  *
  * Link libphkarotuk.a, which the command `lib/build FOLDER` writes (docs/EMBEDDING.md). Every function works on blocks
- * that the caller lends; it allocates nothing, keeps nothing between two calls and calls nothing but C's memset. Each
+ * that the caller lends; it allocates nothing, keeps nothing between two calls and calls nothing (the screen: memset). Each
  * answers the number of the document (docs/01-scope.md), or PHK_MALFORMED if a block has the wrong length, a flag is
  * neither 0 nor 1, or the halt mode is above 3; then no byte of any block is changed.
  *
