@@ -16,7 +16,8 @@ mod archive {
     extern "C" {
         pub fn phk_run(state: *mut u8, state_size: usize, mem: *mut u8, mem_size: usize, budget: u16, answer: *mut u8, answer_size: usize) -> u16;
         pub fn phk_step(state: *mut u8, state_size: usize, mem: *mut u8, mem_size: usize, answer: *mut u8, answer_size: usize) -> u16;
-        pub fn phk_screen(mem: *const u8, mem_size: usize, first: u16, last: u16, marks: *mut u8, marks_size: usize, answer: *mut u8, answer_size: usize) -> u8;
+        pub fn phk_screen(mem: *const u8, mem_size: usize, first: u16, last: u16, marks: *mut u8, marks_size: usize, answer: *mut u8, answer_size: usize)
+            -> u8;
     }
 }
 
