@@ -67,3 +67,18 @@ fn what_a_technician_sees() {
     assert!(reaches(started(0x0340), 0x0038, 10));
     assert!(reaches(started(0x0340), 0x0100, 300));
 }
+
+/// docs/EMBEDDING.md, "Reentrancy": calls on blocks of their own, at the same time.
+#[test]
+fn eight_at_once() {
+    let draw = || {
+        let (mut cpu, mut memory) = (Cpu::dmg(), image());
+        let answer = cpu.run(&mut memory, 65535);
+        (cpu, memory, answer, screen(&image(), 0x0150, 0x017C))
+    };
+    let alone = draw();
+    let threads: Vec<_> = (0..8).map(|_| std::thread::spawn(move || (0..20).map(|_| draw()).collect::<Vec<_>>())).collect();
+    for thread in threads {
+        assert!(thread.join().expect("a thread ends").iter().all(|each| *each == alone));
+    }
+}
