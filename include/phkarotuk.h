@@ -1,12 +1,13 @@
 /* phkarotuk.h: the proved SM83 core for C (C99) and C++.
  *
- * Link the object that `oracle/native library OUT` writes. Every function works on blocks that the caller lends; it
- * allocates nothing, keeps nothing between two calls and calls nothing. Each answers the number of the document
- * (docs/01-scope.md), or PHK_MALFORMED if a block has the wrong length, a flag is neither 0 nor 1, or the halt mode is
- * above 3; then no byte of any block is changed.
+ * Link libphkarotuk.a, which the command `lib/build FOLDER` writes (docs/EMBEDDING.md). Every function works on blocks
+ * that the caller lends; it allocates nothing, keeps nothing between two calls and calls nothing (the screen: memset). Each
+ * answers the number of the document (docs/01-scope.md), or PHK_MALFORMED if a block has the wrong length, a flag is
+ * neither 0 nor 1, or the halt mode is above 3; then no byte of any block is changed.
  *
  * What is proved stands in crates/library/specs/Left.antt: the number and every byte of every block, for every input.
  * What is trusted: the compiler's back end, and that the pointers and lengths handed over are true and do not overlap.
+ * A pointer may not be null, not even with length 0.
  */
 #ifndef PHKAROTUK_H
 #define PHKAROTUK_H
@@ -31,6 +32,12 @@ enum {
     PHK_DMG = 17,          /* 1 on a DMG, 0 on a CGB */
     PHK_STATE_SIZE = 24    /* bytes 18 to 23 are reserved: neither looked at nor changed */
 };
+
+/* The state blocks at power-on, as initialisers: uint8_t state[PHK_STATE_SIZE] = PHK_POWER_ON_DMG;
+ * A state of zeros is the one without a boot skip (on a CGB; set PHK_DMG for a DMG). */
+#define PHK_POWER_ON_DMG { 0x01, 0xB0, 0x00, 0x13, 0x00, 0xD8, 0x01, 0x4D, 0xFE, 0xFF, 0x00, 0x01, 0, 0, 0, 0, 0, 1 }
+#define PHK_POWER_ON_CGB { 0x11, 0x80, 0x00, 0x00, 0xFF, 0x56, 0x00, 0x0D, 0xFE, 0xFF, 0x00, 0x01, 0, 0, 0, 0, 0, 0 }
+#define PHK_POWER_ON_CGB_DMG { 0x11, 0x80, 0x00, 0x00, 0x00, 0x08, 0x00, 0x7C, 0xFE, 0xFF, 0x00, 0x01, 0, 0, 0, 0, 0, 0 }
 
 /* The answer block of a step or a run. */
 enum {

@@ -1,5 +1,5 @@
 //! The unmodified Rust core and the proved core in one program: compared step by step, or timed.
-//! judge compare STEPS SEED | judge time rust|ours STEPS | judge screen TIMES
+//! judge compare STEPS SEED | judge time rust|ours|calls STEPS | judge screen TIMES
 #![allow(dead_code)]
 mod compare;
 mod flat;
@@ -40,7 +40,7 @@ fn quiet() -> File {
 }
 
 fn usage() -> ! {
-    eprintln!("judge: want 'compare STEPS SEED', 'time rust|ours STEPS' or 'screen TIMES'");
+    eprintln!("judge: want 'compare STEPS SEED', 'time rust|ours|calls STEPS' or 'screen TIMES'");
     std::process::exit(2)
 }
 

@@ -71,7 +71,9 @@ pub fn one(out: &mut impl Write, which: &str, steps: u64) {
             }
             cycles
         }
-        other => panic!("judge time: {other:?} is neither 'rust' nor 'ours'"),
+        // one call a step: docs/EMBEDDING.md says what that costs beside a run
+        "calls" => (0..steps).map(|_| ours::step(&mut block, &mut bytes[..]).cycles as u64).sum(),
+        other => panic!("judge time: {other:?} is none of 'rust', 'ours' and 'calls'"),
     };
     let took = began.elapsed().as_nanos();
     let sum = block[..18].iter().chain(bytes.iter()).fold(cycles % (1 << 32), |h, b| (h ^ *b as u64).wrapping_mul(0x100_0000_01b3));

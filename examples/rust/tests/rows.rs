@@ -1,0 +1,167 @@
+//! "Rows to be worked" of docs/01-scope.md, on the linked core.
+
+use phkarotuk::{screen, Cpu, HaltMode, Memory, Outcome, Refusal, Refused};
+
+const Z: u8 = 0x80;
+const H: u8 = 0x20;
+const C: u8 = 0x10;
+
+/// A DMG at power-on, its PC at `pc`, where the bytes stand.
+fn at(pc: u16, bytes: &[u8]) -> (Cpu, Memory) {
+    let mut memory = Memory::new();
+    memory[usize::from(pc)..usize::from(pc) + bytes.len()].copy_from_slice(bytes);
+    let mut cpu = Cpu::dmg();
+    cpu.registers.pc = pc;
+    (cpu, memory)
+}
+
+/// The operation and DAA: A and the carry after both.
+fn decimal(a: u8, f: u8, operation: [u8; 2]) -> (u8, bool) {
+    let (mut cpu, mut memory) = at(0xC000, &[operation[0], operation[1], 0x27]);
+    cpu.registers.a = a;
+    cpu.registers.f = f;
+    let answer = cpu.run(&mut memory, 2);
+    assert_eq!((answer.outcome, answer.steps, cpu.registers.pc), (Outcome::Normal, 2, 0xC003));
+    (cpu.registers.a, cpu.registers.f & C != 0)
+}
+
+#[test]
+fn packed_decimal() {
+    assert_eq!(decimal(0x45, 0, [0xC6, 0x38]), (0x83, false));
+    assert_eq!(decimal(0x99, C, [0xCE, 0x99]), (0x99, true));
+    assert_eq!(decimal(0x00, 0, [0xD6, 0x01]), (0x99, true));
+}
+
+#[test]
+fn add_sp() {
+    let (mut cpu, mut memory) = at(0xC000, &[0xE8, 0x01]);
+    cpu.registers.sp = 0x00FF;
+    let answer = cpu.step(&mut memory);
+    assert_eq!((cpu.registers.sp, cpu.registers.f, answer.m_cycles), (0x0100, H | C, 4));
+}
+
+#[test]
+fn ld_hl_sp() {
+    let (mut cpu, mut memory) = at(0xC000, &[0xF8, 0xFF]);
+    cpu.registers.sp = 0x0000;
+    let answer = cpu.step(&mut memory);
+    assert_eq!((cpu.registers.h, cpu.registers.l, cpu.registers.f, answer.m_cycles), (0xFF, 0xFF, 0, 3));
+}
+
+#[test]
+fn ei_then_an_illegal_opcode() {
+    let (mut cpu, mut memory) = at(0xC000, &[0xFB, 0xD3]);
+    assert_eq!(cpu.step(&mut memory).outcome, Outcome::Normal);
+    assert!(cpu.ei_latch && !cpu.ime);
+    let answer = cpu.step(&mut memory);
+    assert_eq!((answer.outcome, answer.steps, answer.m_cycles), (Outcome::Refused(Refusal::IllegalOpcode), 1, 1));
+    assert_eq!((cpu.registers.pc, cpu.ime, cpu.ei_latch), (0xC001, true, false));
+}
+
+/// IME set, IE=01, IF=01: one step.
+fn dispatch(sp: u16, pc: u16) -> (Cpu, Memory, phkarotuk::Answer) {
+    let (mut cpu, mut memory) = at(pc, &[]);
+    cpu.ime = true;
+    cpu.registers.sp = sp;
+    memory[0xFFFF] = 1;
+    memory[0xFF0F] = 1;
+    let answer = cpu.step(&mut memory);
+    (cpu, memory, answer)
+}
+
+#[test]
+fn a_cancelled_interrupt() {
+    let (cpu, memory, answer) = dispatch(0x0000, 0x1234);
+    assert_eq!((memory[0xFFFF], memory[0xFFFE], memory[0xFF0F]), (0x12, 0x34, 0x01));
+    assert_eq!((cpu.registers.pc, cpu.registers.sp), (0x0000, 0xFFFE));
+    assert_eq!((answer.outcome, answer.m_cycles), (Outcome::Normal, 5));
+}
+
+#[test]
+fn an_interrupt_that_its_own_push_allows() {
+    let (cpu, memory, answer) = dispatch(0x0000, 0x0134);
+    assert_eq!((cpu.registers.pc, memory[0xFF0F]), (0x0040, 0x00));
+    assert_eq!(answer.outcome, Outcome::RunningInterrupt(0));
+}
+
+#[test]
+fn the_low_byte_lands_on_if() {
+    let (cpu, memory, _) = dispatch(0xFF11, 0x1234);
+    assert_eq!((cpu.registers.pc, memory[0xFF0F]), (0x0040, 0x34));
+}
+
+#[test]
+fn halt_bug_before_cb() {
+    let (mut cpu, mut memory) = at(0xC000, &[0xCB]);
+    cpu.halt = HaltMode::HaltBug;
+    cpu.registers.e = 0x00;
+    let answer = cpu.step(&mut memory);
+    assert_eq!((cpu.registers.e, cpu.registers.pc, answer.m_cycles), (0x02, 0xC001, 2));
+    assert_eq!(cpu.halt, HaltMode::NotHalting);
+}
+
+#[test]
+fn pop_af() {
+    let (mut cpu, mut memory) = at(0xC000, &[0xF1, 0xFF, 0xFF]);
+    cpu.registers.sp = 0xC001;
+    cpu.step(&mut memory);
+    assert_eq!((cpu.registers.f, cpu.registers.a), (0xF0, 0xFF));
+}
+
+#[test]
+fn a_woken_call_on_a_cgb() {
+    let (mut cpu, mut memory) = at(0xC000, &[0xCD, 0x00, 0xD0]);
+    cpu.dmg = false;
+    cpu.halt = HaltMode::HaltNoRunInterrupt;
+    memory[0xFFFF] = 1;
+    memory[0xFF0F] = 1;
+    let answer = cpu.step(&mut memory);
+    assert_eq!((answer.m_cycles, cpu.registers.pc), (8, 0xD000));
+}
+
+#[test]
+fn windows_that_pass() {
+    for (bytes, marks) in [(&[0xC9][..], &[true][..]), (&[0x18, 0xFE], &[true, false])] {
+        let (_, memory) = at(0xC000, bytes);
+        let last = 0xC000 + bytes.len() as u16 - 1;
+        let screened = screen(&memory, 0xC000, last).expect("the document lets it pass");
+        assert_eq!(screened.marks, marks);
+        assert_eq!(screened.starts().collect::<Vec<_>>(), [0xC000]);
+    }
+}
+
+#[test]
+fn windows_that_are_refused() {
+    use Refusal::{FallsThrough, ForbiddenOpcode, JumpUnmarked, PastTheEnd};
+    let rows: [(&[u8], Refusal); 5] =
+        [(&[0x00], FallsThrough), (&[0x20, 0x00], FallsThrough), (&[0x18, 0xFF], JumpUnmarked), (&[0xCB], PastTheEnd), (&[0x76], ForbiddenOpcode)];
+    for (bytes, refusal) in rows {
+        let (_, memory) = at(0xC000, bytes);
+        let last = 0xC000 + bytes.len() as u16 - 1;
+        assert_eq!(screen(&memory, 0xC000, last), Err(Refused { refusal, address: Some(0xC000) }), "{bytes:02X?}");
+    }
+}
+
+#[test]
+fn the_longest_window() {
+    let mut memory = Memory::new();
+    memory[0x0FFF] = 0xC9; // 4,095 NOPs and a RET
+    assert!(screen(&memory, 0x0000, 0x0FFF).is_ok());
+    memory[0x1000] = 0xC9;
+    assert_eq!(screen(&memory, 0x0000, 0x1000), Err(Refused { refusal: Refusal::WindowTooLong, address: None }));
+}
+
+#[test]
+fn power_on() {
+    let pairs = |cpu: Cpu| {
+        let r = cpu.registers;
+        [[r.a, r.f], [r.b, r.c], [r.d, r.e], [r.h, r.l]].map(u16::from_be_bytes)
+    };
+    assert_eq!(pairs(Cpu::dmg()), [0x01B0, 0x0013, 0x00D8, 0x014D]);
+    assert_eq!(pairs(Cpu::cgb()), [0x1180, 0x0000, 0xFF56, 0x000D]);
+    assert_eq!(pairs(Cpu::cgb_dmg()), [0x1180, 0x0000, 0x0008, 0x007C]);
+    for cpu in [Cpu::dmg(), Cpu::cgb(), Cpu::cgb_dmg()] {
+        assert_eq!((cpu.registers.sp, cpu.registers.pc, cpu.registers.f & !(Z | H | C)), (0xFFFE, 0x0100, 0));
+    }
+    assert_eq!(Cpu::default().to_block(), [0; 24]);
+}
