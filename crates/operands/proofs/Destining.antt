@@ -8,14 +8,22 @@ use Rattle.sm83.specs.Basics.{lowByte}
 use Rattle.sm83.specs.State.{writeA, putBC, putDE, putHL, writeAF, writeBC, writeDE, writeHL, writeSP, onRegisters}
 use Rattle.instruction.specs.declared.operand.OperandType.{OperandType}
 use Rattle.instruction.specs.declared.operand.OperandType.the-variants as ot
+use Rattle.sm83.specs.Bus.{Ask, Operand}
+use Rattle.sm83.specs.Step.{Ended}
+use Rattle.sm83.specs.Execution.{store}
 use Rattle.memory.specs.declared.Port.{Port}
+use Rattle.memory.specs.World.{world, leads}
 use Rattle.accesses.specs.Leads.{Leads}
 use Rattle.mirror.specs.Operands.{writeOperand}
-use Rattle.accesses.proofs.Leading.{along, arm}
+use Rattle.accesses.proofs.Leading.{along, arm, stored}
 
 module _ (s t : Cpu) (port port' : Port) (m m' : List ℕ) (v : ℕ) (ty : OperandType) where
   pub written : (kind : OperandType) → ty ≡ kind → Leads (writeOperand kind v) s port m tt t port' m' → Leads (writeOperand ty v) s port m tt t port' m'
   written kind e l = along s t port port' m m' (λ (x : OperandType). writeOperand x v) kind ty tt (sym e) l
+
+  -- to an address that the registers give
+  pub stored-at : (kind : OperandType) (a b : ℕ) → ty ≡ kind → ((k : Unit {0} → Cpu → Ask Ended) → leads (writeOperand kind v s k) (world port m) ≡ leads (store Operand b (lowByte v) s k) (world port m)) → a ≡ b → Leads (store Operand a (lowByte v)) s port m tt t port' m' → Leads (writeOperand ty v) s port m tt t port' m'
+  stored-at kind a b e same e' l = written kind e (λ k. same k ∙ stored s t port port' m m' (lowByte v) a b e' l k)
 
 module _ (s : Cpu) (port : Port) (m : List ℕ) (v : ℕ) (ty : OperandType) where
   pub nowhere : ty ≡ ot.Implied → Leads (writeOperand ty v) s port m tt s port m

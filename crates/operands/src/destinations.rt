@@ -2,7 +2,7 @@
 ghost use mathlib.Core.Path.{_≡_};
 ghost use lib.Dec.{T};
 ghost use lib.ListN.{length};
-ghost use Rattle.instruction.specs.declared.operand.OperandType.the-variants.{AddrHL, AddrHLDec, AddrHLInc, AddrBC, AddrDE, HighAddr8, HighAddrC, Addr16, Addr16Val16};
+ghost use Rattle.instruction.specs.declared.operand.OperandType.the-variants.{AddrHLDec, AddrHLInc, HighAddr8, Addr16, Addr16Val16};
 ghost use Rattle.accesses.specs.Leads.{Leads};
 ghost use Rattle.mirror.specs.Operands.{writeOperand};
 ghost use Rattle.instruction.specs.Operand.{writable};
@@ -16,56 +16,6 @@ use instruction::operand::OperandType;
 use memory::Port;
 use sm83::addr::Addr;
 use sm83::state::Cpu;
-
-fn write_hl(cpu: Cpu, port: Port, value: u16, mem: &mut [u8]) -> Both
-    requires { ⌜ length (now mem) ≡ 65536 ⌝ }
-    ensures { λ r. ⌜ Leads (writeOperand AddrHL value) cpu port (now (mem .entry)) tt (r .cpu) (r .port) (now (mem .exit)) × (length (now (mem .exit)) ≡ 65536) ⌝ }
-{
-    let regs = cpu.registers;
-    store(
-        cpu,
-        port,
-        Addr(regs.reg_hl_read()),
-        (value % 256) as u8,
-        mem,
-    )
-}
-
-fn write_bc(cpu: Cpu, port: Port, value: u16, mem: &mut [u8]) -> Both
-    requires { ⌜ length (now mem) ≡ 65536 ⌝ }
-    ensures { λ r. ⌜ Leads (writeOperand AddrBC value) cpu port (now (mem .entry)) tt (r .cpu) (r .port) (now (mem .exit)) × (length (now (mem .exit)) ≡ 65536) ⌝ }
-{
-    let regs = cpu.registers;
-    store(
-        cpu,
-        port,
-        Addr(regs.reg_bc_read()),
-        (value % 256) as u8,
-        mem,
-    )
-}
-
-fn write_de(cpu: Cpu, port: Port, value: u16, mem: &mut [u8]) -> Both
-    requires { ⌜ length (now mem) ≡ 65536 ⌝ }
-    ensures { λ r. ⌜ Leads (writeOperand AddrDE value) cpu port (now (mem .entry)) tt (r .cpu) (r .port) (now (mem .exit)) × (length (now (mem .exit)) ≡ 65536) ⌝ }
-{
-    let regs = cpu.registers;
-    store(
-        cpu,
-        port,
-        Addr(regs.reg_de_read()),
-        (value % 256) as u8,
-        mem,
-    )
-}
-
-fn write_high_c(cpu: Cpu, port: Port, value: u16, mem: &mut [u8]) -> Both
-    requires { ⌜ length (now mem) ≡ 65536 ⌝ }
-    ensures { λ r. ⌜ Leads (writeOperand HighAddrC value) cpu port (now (mem .entry)) tt (r .cpu) (r .port) (now (mem .exit)) × (length (now (mem .exit)) ≡ 65536) ⌝ }
-{
-    let regs = cpu.registers;
-    store(cpu, port, high(regs.c), (value % 256) as u8, mem)
-}
 
 fn write_hl_dec(cpu: Cpu, port: Port, value: u16, mem: &mut [u8]) -> Both
     requires { ⌜ length (now mem) ≡ 65536 ⌝ }
@@ -178,11 +128,11 @@ pub fn write_operand(cpu: Cpu, port: Port, ty: OperandType, value: u16, mem: &mu
             let s = with_registers(cpu, regs);
             Both { cpu: s, port: port }
         }
-        OperandType::AddrHL => write_hl(cpu, port, value, mem),
+        OperandType::AddrHL => store(cpu, port, Addr(regs.reg_hl_read()), low, mem),
         OperandType::AddrHLDec => write_hl_dec(cpu, port, value, mem),
         OperandType::AddrHLInc => write_hl_inc(cpu, port, value, mem),
-        OperandType::AddrBC => write_bc(cpu, port, value, mem),
-        OperandType::AddrDE => write_de(cpu, port, value, mem),
+        OperandType::AddrBC => store(cpu, port, Addr(regs.reg_bc_read()), low, mem),
+        OperandType::AddrDE => store(cpu, port, Addr(regs.reg_de_read()), low, mem),
         OperandType::RegAF => {
             let s = with_registers(cpu, regs.reg_af_write(value));
             Both { cpu: s, port: port }
@@ -209,7 +159,7 @@ pub fn write_operand(cpu: Cpu, port: Port, ty: OperandType, value: u16, mem: &mu
         OperandType::Imm8Signed => never_written(cpu, port),
         OperandType::Imm16 => never_written(cpu, port),
         OperandType::HighAddr8 => write_high(cpu, port, value, mem),
-        OperandType::HighAddrC => write_high_c(cpu, port, value, mem),
+        OperandType::HighAddrC => store(cpu, port, high(regs.c), low, mem),
         OperandType::Addr16 => write_at16(cpu, port, value, mem),
         OperandType::Addr16Val16 => write_word_at16(cpu, port, value, mem),
         OperandType::Implied => Both {

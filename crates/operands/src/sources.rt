@@ -3,7 +3,7 @@ ghost use mathlib.Core.Path.{_≡_};
 ghost use lib.Dec.{T};
 ghost use lib.ListN.{length};
 ghost use Rattle.sm83.specs.Execution.{imm8};
-ghost use Rattle.instruction.specs.declared.operand.OperandType.the-variants.{AddrHL, AddrHLDec, AddrHLInc, AddrBC, AddrDE, Imm8Signed, HighAddr8, HighAddrC, Addr16};
+ghost use Rattle.instruction.specs.declared.operand.OperandType.the-variants.{AddrHLDec, AddrHLInc, Imm8Signed, HighAddr8, Addr16};
 ghost use Rattle.accesses.specs.Leads.{Leads};
 ghost use Rattle.mirror.specs.Operands.{readOperand};
 ghost use Rattle.instruction.specs.Operand.{readable};
@@ -18,38 +18,6 @@ use instruction::operand::OperandType;
 use memory::Port;
 use sm83::addr::Addr;
 use sm83::state::Cpu;
-
-fn read_hl(cpu: Cpu, port: Port, mem: &mut [u8]) -> Val16
-    requires { ⌜ length (now mem) ≡ 65536 ⌝ }
-    ensures { λ r. ⌜ Leads (readOperand AddrHL) cpu port (now (mem .entry)) (r .value) (r .cpu) (r .port) (now (mem .exit)) × (length (now (mem .exit)) ≡ 65536) ⌝ }
-{
-    let regs = cpu.registers;
-    load(cpu, port, Addr(regs.reg_hl_read()), mem)
-}
-
-fn read_bc(cpu: Cpu, port: Port, mem: &mut [u8]) -> Val16
-    requires { ⌜ length (now mem) ≡ 65536 ⌝ }
-    ensures { λ r. ⌜ Leads (readOperand AddrBC) cpu port (now (mem .entry)) (r .value) (r .cpu) (r .port) (now (mem .exit)) × (length (now (mem .exit)) ≡ 65536) ⌝ }
-{
-    let regs = cpu.registers;
-    load(cpu, port, Addr(regs.reg_bc_read()), mem)
-}
-
-fn read_de(cpu: Cpu, port: Port, mem: &mut [u8]) -> Val16
-    requires { ⌜ length (now mem) ≡ 65536 ⌝ }
-    ensures { λ r. ⌜ Leads (readOperand AddrDE) cpu port (now (mem .entry)) (r .value) (r .cpu) (r .port) (now (mem .exit)) × (length (now (mem .exit)) ≡ 65536) ⌝ }
-{
-    let regs = cpu.registers;
-    load(cpu, port, Addr(regs.reg_de_read()), mem)
-}
-
-fn read_high_c(cpu: Cpu, port: Port, mem: &mut [u8]) -> Val16
-    requires { ⌜ length (now mem) ≡ 65536 ⌝ }
-    ensures { λ r. ⌜ Leads (readOperand HighAddrC) cpu port (now (mem .entry)) (r .value) (r .cpu) (r .port) (now (mem .exit)) × (length (now (mem .exit)) ≡ 65536) ⌝ }
-{
-    let regs = cpu.registers;
-    load(cpu, port, high(regs.c), mem)
-}
 
 fn read_hl_dec(cpu: Cpu, port: Port, mem: &mut [u8]) -> Val16
     requires { ⌜ length (now mem) ≡ 65536 ⌝ }
@@ -187,11 +155,11 @@ pub fn read_operand(cpu: Cpu, port: Port, ty: OperandType, mem: &mut [u8]) -> Va
             port: port,
             value: regs.l as u16,
         },
-        OperandType::AddrHL => read_hl(cpu, port, mem),
+        OperandType::AddrHL => load(cpu, port, Addr(regs.reg_hl_read()), mem),
         OperandType::AddrHLDec => read_hl_dec(cpu, port, mem),
         OperandType::AddrHLInc => read_hl_inc(cpu, port, mem),
-        OperandType::AddrBC => read_bc(cpu, port, mem),
-        OperandType::AddrDE => read_de(cpu, port, mem),
+        OperandType::AddrBC => load(cpu, port, Addr(regs.reg_bc_read()), mem),
+        OperandType::AddrDE => load(cpu, port, Addr(regs.reg_de_read()), mem),
         OperandType::RegAF => Val16 {
             cpu: cpu,
             port: port,
@@ -221,7 +189,7 @@ pub fn read_operand(cpu: Cpu, port: Port, ty: OperandType, mem: &mut [u8]) -> Va
         OperandType::Imm8Signed => read_signed(cpu, port, mem),
         OperandType::Imm16 => fetch16(cpu, port, mem),
         OperandType::HighAddr8 => read_high(cpu, port, mem),
-        OperandType::HighAddrC => read_high_c(cpu, port, mem),
+        OperandType::HighAddrC => load(cpu, port, high(regs.c), mem),
         OperandType::Addr16 => read_at16(cpu, port, mem),
         OperandType::Addr16Val16 => never_read(cpu, port),
         OperandType::Implied => Val16 {
