@@ -1,0 +1,3 @@
+-- The laws behind the comparison of one record.
+pub mod SameBytes
+pub mod Compared

@@ -1,0 +1,33 @@
+-- When the core agrees with a record, and how many records of a sample it does not agree with.
+use mathlib.Core.Bool.{Bool, true, false, not, _&&_}
+use mathlib.Core.List.{List}
+use Prim.Native.Nat.{ℕ, zero, suc, _+_, _*_}
+use lib.Dec.{eqb, leb}
+use lib.ListN.{length, take, drop}
+use Rattle.sm83.specs.Basics.{if_then_else_, bit}
+use Rattle.blocks.specs.Bytes.{wordAt}
+use Rattle.sample.specs.Record.{kindOf, nameLength, memoryLength, listed, changed, asked, told, sameLeft, askedScreen, toldScreen, sameScreen}
+
+-- the longest memory that a record may ask for
+abbrev pub mostMemory : ℕ
+mostMemory = 131072
+
+-- a record is as long as its parts say
+abbrev pub fitsRun : List ℕ → Bool
+fitsRun r = eqb (length r) (87 + 3 * listed r + 3 * changed r + nameLength r)
+
+abbrev pub fitsWindow : List ℕ → Bool
+fitsWindow r = eqb (length r) (19 + 2 * changed r + 3 * listed r + nameLength r)
+
+unfoldable pub agreesRun : List ℕ → Bool
+agreesRun r = if fitsRun r then sameLeft (asked r (memoryLength r)) (told r (memoryLength r)) else false
+
+unfoldable pub agreesWindow : List ℕ → Bool
+agreesWindow r = if fitsWindow r then sameScreen (askedScreen r (memoryLength r)) (toldScreen r) else false
+
+unfoldable pub agrees : List ℕ → Bool
+agrees r =
+    if leb 15 (length r) then
+    (if leb (memoryLength r) mostMemory then
+    (if leb (kindOf r) 1 then agreesRun r
+    else (if eqb (kindOf r) 2 then agreesWindow r else false)) else false) else false
