@@ -1,3 +1,4 @@
 -- The laws behind the comparison of one record.
 pub mod SameBytes
 pub mod Compared
+pub mod Judged

@@ -13,17 +13,17 @@ abbrev pub mostMemory : ℕ
 mostMemory = 131072
 
 -- a record is as long as its parts say
-abbrev pub fitsRun : List ℕ → Bool
-fitsRun r = eqb (length r) (87 + 3 * listed r + 3 * changed r + nameLength r)
+abbrev pub runSize : List ℕ → ℕ
+runSize r = 87 + 3 * listed r + 3 * changed r + nameLength r
 
-abbrev pub fitsWindow : List ℕ → Bool
-fitsWindow r = eqb (length r) (19 + 2 * changed r + 3 * listed r + nameLength r)
+abbrev pub windowSize : List ℕ → ℕ
+windowSize r = 19 + 2 * changed r + 3 * listed r + nameLength r
 
 unfoldable pub agreesRun : List ℕ → Bool
-agreesRun r = if fitsRun r then sameLeft (asked r (memoryLength r)) (told r (memoryLength r)) else false
+agreesRun r = if eqb (length r) (runSize r) then sameLeft (asked r (memoryLength r)) (told r (memoryLength r)) else false
 
 unfoldable pub agreesWindow : List ℕ → Bool
-agreesWindow r = if fitsWindow r then sameScreen (askedScreen r (memoryLength r)) (toldScreen r) else false
+agreesWindow r = if eqb (length r) (windowSize r) then sameScreen (askedScreen r (memoryLength r)) (toldScreen r) else false
 
 unfoldable pub agrees : List ℕ → Bool
 agrees r =
