@@ -31,3 +31,17 @@ agrees r =
     (if leb (memoryLength r) mostMemory then
     (if leb (kindOf r) 1 then agreesRun r
     else (if eqb (kindOf r) 2 then agreesWindow r else false)) else false) else false
+
+-- A sample: how many records it holds, two bytes, and the records one after the other.
+
+-- the length of the record at the front, as its first two bytes say; 0 if no whole record stands there
+abbrev pub frontSize : List ℕ → ℕ
+frontSize s = if leb 2 (length s) then (if leb (wordAt s 0) (length s) then wordAt s 0 else 0) else 0
+
+-- how many of so many records the core does not agree with; one that is not whole ends the count, and so does a rest behind the last
+unfoldable pub differing : ℕ → List ℕ → ℕ
+differing zero s = if eqb (length s) 0 then 0 else 1
+differing (suc n) s = if eqb (frontSize s) 0 then 1 else bit (not (agrees (take (frontSize s) s))) + differing n (drop (frontSize s) s)
+
+abbrev pub differs : List ℕ → ℕ
+differs s = if leb 2 (length s) then differing (wordAt s 0) (drop 2 s) else 1

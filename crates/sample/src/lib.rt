@@ -1,11 +1,15 @@
 // The stored sample of answers: what a record asks, and whether the core answers as the record says.
 ghost use mathlib.Core.Path.{_≡_};
-ghost use Rattle.sample.specs.Replay.{agrees};
+ghost use Prim.Native.Nat.{_+_, _≤_};
+ghost use lib.ListN.{length, drop};
+ghost use Rattle.sample.specs.Replay.{agrees, frontSize};
+use blocks::bytes::word_at;
 use layout::memory_length;
 use runs::run_agrees;
 use windows::window_agrees;
 
 pub mod layout;
+pub mod notes;
 pub mod runs;
 pub mod slices;
 pub mod windows;
@@ -31,4 +35,20 @@ pub fn agrees(item: &[u8], mem: &mut [u8; 131072], other: &mut [u8; 131072]) -> 
         return window_agrees(item, mem, other);
     }
     false
+}
+
+// The length of the record that stands at an offset of a sample; 0 if no whole record stands there.
+pub fn front_size(file: &[u8], at: usize) -> usize
+    requires { ⌜ at ≤ length (now file) ⌝ }
+    ensures { λ r. ⌜ (r ≡ frontSize (drop at (now (file .entry)))) × (at + r ≤ length (now (file .entry))) ⌝ }
+{
+    let left = file.len() - at;
+    if left < 2 {
+        return 0;
+    }
+    let n = word_at(file, at) as usize;
+    if n <= left {
+        return n;
+    }
+    0
 }
