@@ -6,15 +6,6 @@ use libc::STDERR_FILENO;
 use libc::STDOUT_FILENO;
 use report::report;
 use rounds::replay;
-ghost use mathlib.Core.Path.{_≡_};
-ghost use lib.ListN.{length};
-
-// The longest sample is a byte shorter: a file that fills this was not read to its end.
-fn room() -> [u8; 1048576]
-    ensures { λ r. ⌜ 1048576 ≡ length r ⌝ }
-{
-    [0; 1048576]
-}
 
 fn replay_file(file: &[u8]) {
     let mut mem = [0u8; 131072];
@@ -25,6 +16,20 @@ fn replay_file(file: &[u8]) {
     io::write_all(STDOUT_FILENO, b"differ ");
     io::print_decimal(STDOUT_FILENO, differ as u64);
     io::write_all(STDOUT_FILENO, b"\n");
+}
+
+fn replay_front(room: &[u8], n: usize) {
+    if n < room.len() {
+        replay_file(&room[..n]);
+    } else {
+        io::write_all(STDERR_FILENO, b"replay: the sample is longer than 1,048,575 bytes: nothing was replayed\n");
+    }
+}
+
+// A file that fills the room may go on behind it, and is not replayed.
+fn replay_from(fd: i32, room: &mut [u8; 1048576]) {
+    let n = io::read_full(fd, room);
+    replay_front(room, n);
 }
 
 fn main() {
@@ -39,12 +44,7 @@ fn main() {
         os::fail(&path[..n]);
         return;
     }
-    let mut file = room();
-    let got = io::read_full(fd, &mut file);
+    let mut room = [0u8; 1048576];
+    replay_from(fd, &mut room);
     libc::close(fd);
-    if got == 1048576 {
-        io::write_all(STDERR_FILENO, b"replay: the sample is longer than 1,048,575 bytes: nothing was replayed\n");
-        return;
-    }
-    replay_file(&file[..got]);
 }

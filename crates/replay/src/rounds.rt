@@ -8,6 +8,7 @@ use blocks::bytes::word_at;
 use libc::STDOUT_FILENO;
 use sample::agrees;
 use sample::front_size;
+use sample::layout::wide;
 use sample::notes::note;
 
 fn say(words: &[u8], number: usize) {
@@ -28,7 +29,7 @@ fn say_row(item: &[u8], same: bool) {
     if item.len() < 4 {
         return;
     }
-    let n = item[3] as usize;
+    let n = wide(item[3]);
     if n == 0 {
         return;
     }
@@ -40,16 +41,38 @@ fn say_row(item: &[u8], same: bool) {
     }
 }
 
+fn say_short() {
+    io::write_all(STDOUT_FILENO, b"the sample is shorter than 2 bytes: make it again with oracle/sample\n");
+}
+
+fn say_cut(before: usize, at: usize) {
+    say(b"no whole record at byte ", at);
+    say(b", after record ", before);
+    io::write_all(STDOUT_FILENO, b": the sample is cut short; make it again with oracle/sample\n");
+}
+
+fn say_rest(at: usize) {
+    say(b"the last record ends at byte ", at);
+    io::write_all(STDOUT_FILENO, b", but the sample goes on: make it again with oracle/sample\n");
+}
+
+// Records are numbered from 1, as `oracle/sample --show` numbers them.
+fn say_differs(before: usize, at: usize) {
+    say(b"after record ", before);
+    say(b", at byte ", at);
+    io::write_all(STDOUT_FILENO, b": the next record DIFFERS; see it with oracle/sample --show\n");
+}
+
 // 1 if the core does not agree with the record, which is then named.
 fn round(
     item: &[u8],
-    number: usize,
+    before: usize,
     at: usize,
     mem: &mut [u8; 131072],
     other: &mut [u8; 131072],
     counts: &mut [u32; 1536],
 ) -> usize
-    ensures { λ r. ⌜ r ≡ bit (not (agrees (now (item .entry)))) ⌝ }
+    ensures { λ r. ⌜ (r ≡ bit (not (agrees (now (item .entry))))) × (r ≤ 1) ⌝ }
 {
     note(item, mem, counts);
     let same = agrees(item, mem, other);
@@ -57,9 +80,7 @@ fn round(
     if same {
         return 0;
     }
-    say(b"record ", number);
-    say(b" at byte ", at);
-    io::write_all(STDOUT_FILENO, b" differs\n");
+    say_differs(before, at);
     1
 }
 
@@ -73,7 +94,7 @@ pub fn replay(
     ensures { λ r. ⌜ r ≡ differs (now (file .entry)) ⌝ }
 {
     if file.len() < 2 {
-        io::write_all(STDOUT_FILENO, b"the sample is shorter than 2 bytes\n");
+        say_short();
         return 1;
     }
     let count = word_at(file, 0) as usize;
@@ -83,20 +104,17 @@ pub fn replay(
     while i < count {
         let size = front_size(file, at);
         if size == 0 {
-            say(b"no whole record at byte ", at);
-            say(b", where number ", i + 1);
-            io::write_all(STDOUT_FILENO, b" should stand\n");
+            say_cut(i, at);
             return differ + 1;
         }
         let end = at + size;
-        let one = round(&file[at..end], i + 1, at, mem, other, counts);
+        let one = round(&file[at..end], i, at, mem, other, counts);
         differ += one;
         at = end;
         i += 1;
     }
     if at < file.len() {
-        say(b"the last record ends at byte ", at);
-        io::write_all(STDOUT_FILENO, b", but the sample goes on\n");
+        say_rest(at);
         return differ + 1;
     }
     differ

@@ -2,3 +2,4 @@
 pub mod SameBytes
 pub mod Compared
 pub mod Judged
+pub mod Differing
