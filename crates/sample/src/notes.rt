@@ -58,6 +58,16 @@ fn note_fetch(item: &[u8], mem: &mut [u8], counts: &mut [u32])
     lay(item, 87, mem);
     let place = opcode(&item[15..39], mem);
     count(counts, place);
+    if 256 <= place {
+        note_prefix(place, counts);
+    }
+}
+
+// CB is an opcode of the first table, too.
+fn note_prefix(place: usize, counts: &mut [u32]) {
+    if place < PLACES {
+        count(counts, 0xcb);
+    }
 }
 
 fn note_opcode(item: &[u8], mem: &mut [u8], counts: &mut [u32])
