@@ -3,3 +3,4 @@ pub mod SameBytes
 pub mod Compared
 pub mod Judged
 pub mod Differing
+pub mod Means

@@ -11,11 +11,11 @@ use Rattle.sm83.specs.Bus.{byteAt}
 use Rattle.blocks.specs.Bytes.{wordAt}
 use Rattle.sample.specs.Bytes.{sameBytes, patched}
 
-and-first : (a b : Bool) → a && b ≡ true → a ≡ true
+pub and-first : (a b : Bool) → a && b ≡ true → a ≡ true
 and-first true b h = refl
 and-first false b h = h
 
-and-second : (a b : Bool) → a && b ≡ true → b ≡ true
+pub and-second : (a b : Bool) → a && b ≡ true → b ≡ true
 and-second true b h = h
 and-second false b h = let z : _≡_ {A = ℕ} 0 1 = cc in absurd (omega arith)
 
