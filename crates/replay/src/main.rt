@@ -22,7 +22,10 @@ fn replay_front(room: &[u8], n: usize) {
     if n < room.len() {
         replay_file(&room[..n]);
     } else {
-        io::write_all(STDERR_FILENO, b"replay: the sample is longer than 1,048,575 bytes: nothing was replayed\n");
+        io::write_all(
+            STDERR_FILENO,
+            b"replay: the sample is longer than 1,048,575 bytes: nothing was replayed\n",
+        );
     }
 }
 

@@ -42,25 +42,37 @@ fn say_row(item: &[u8], same: bool) {
 }
 
 fn say_short() {
-    io::write_all(STDOUT_FILENO, b"the sample is shorter than 2 bytes: make it again with oracle/sample\n");
+    io::write_all(
+        STDOUT_FILENO,
+        b"the sample is shorter than 2 bytes: make it again with oracle/sample\n",
+    );
 }
 
 fn say_cut(before: usize, at: usize) {
     say(b"no whole record at byte ", at);
     say(b", after record ", before);
-    io::write_all(STDOUT_FILENO, b": the sample is cut short; make it again with oracle/sample\n");
+    io::write_all(
+        STDOUT_FILENO,
+        b": the sample is cut short; make it again with oracle/sample\n",
+    );
 }
 
 fn say_rest(at: usize) {
     say(b"the last record ends at byte ", at);
-    io::write_all(STDOUT_FILENO, b", but the sample goes on: make it again with oracle/sample\n");
+    io::write_all(
+        STDOUT_FILENO,
+        b", but the sample goes on: make it again with oracle/sample\n",
+    );
 }
 
 // Records are numbered from 1, as `oracle/sample --show` numbers them.
 fn say_differs(before: usize, at: usize) {
     say(b"after record ", before);
     say(b", at byte ", at);
-    io::write_all(STDOUT_FILENO, b": the next record DIFFERS; see it with oracle/sample --show\n");
+    io::write_all(
+        STDOUT_FILENO,
+        b": the next record DIFFERS; see it with oracle/sample --show\n",
+    );
 }
 
 // 1 if the core does not agree with the record, which is then named.

@@ -50,7 +50,7 @@ module _ (s : List ℕ) (at : ℕ) where
       let rest-is : drop (frontSize (drop at s)) (drop at s) ≡ drop (at + size) s = ap (λ (k : ℕ). drop k (drop at s)) (sym told) ∙ drop-drop size at s in
       simp (ne-eqb (frontSize (drop at s)) 0 (λ e. some (told ∙ e)))
       (ap₂ (λ (x y : List ℕ). bit (not (agrees x)) + differing n y) record-is rest-is
-          ∙ ap₂ (λ (d k : ℕ). d + differing k (drop (at + size) s)) (sym says) (sym fewer))
+      ∙ ap₂ (λ (d k : ℕ). d + differing k (drop (at + size) s)) (sym says) (sym fewer))
 
 pub begun : (s : List ℕ) (count : ℕ) → 0 + differing (count - 0) (drop 2 s) ≡ differing count (drop 2 s)
 begun s count = let all : count - 0 ≡ count = omega arith in omega (arith, ap (λ (k : ℕ). differing k (drop 2 s)) all)

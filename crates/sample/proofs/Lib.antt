@@ -4,3 +4,4 @@ pub mod Compared
 pub mod Judged
 pub mod Differing
 pub mod Means
+pub mod Noting

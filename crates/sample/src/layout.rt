@@ -3,8 +3,8 @@ ghost use mathlib.Core.Path.{_≡_};
 ghost use Prim.Native.Nat.{_+_, _*_, _≤_};
 ghost use lib.ListN.{length};
 ghost use Rattle.sample.specs.Record.{memoryLength, listed, changed, memoryFrom};
-use blocks::bytes::word_at;
 use crate::slices::patch;
+use blocks::bytes::word_at;
 use screen::window::clear;
 
 pub fn memory_length(item: &[u8]) -> usize

@@ -5,7 +5,6 @@ ghost use lib.ListN.{length};
 ghost use Rattle.library.specs.Left.{left, runBlocks};
 ghost use Rattle.sample.specs.Record.{memoryLength, budgetOf, changed, changesAt, asked, told, sameLeft};
 ghost use Rattle.sample.specs.Replay.{agreesRun};
-use blocks::bytes::word_at;
 use crate::layout::changed;
 use crate::layout::lay;
 use crate::layout::listed;
@@ -13,6 +12,7 @@ use crate::layout::memory_length;
 use crate::layout::wide;
 use crate::slices::patch;
 use crate::slices::same;
+use blocks::bytes::word_at;
 use library::phk_run;
 use library::phk_step;
 

@@ -4,13 +4,13 @@ ghost use Prim.Native.Nat.{_+_, _*_, _≤_};
 ghost use lib.ListN.{length};
 ghost use Rattle.sample.specs.Record.{memoryLength, listed, changed, marksEnd, askedScreen, toldScreen, sameScreen};
 ghost use Rattle.sample.specs.Replay.{agreesWindow};
-use blocks::bytes::word_at;
 use crate::layout::changed;
 use crate::layout::lay;
 use crate::layout::listed;
 use crate::layout::memory_length;
 use crate::layout::wide;
 use crate::slices::same;
+use blocks::bytes::word_at;
 use library::phk_screen;
 
 // On memory as long as `mem` is, and as many marks as `marks` has.
@@ -24,7 +24,13 @@ fn compare(item: &[u8], mem: &mut [u8], marks: &mut [u8]) -> bool
     lay(item, end, mem);
     bytes::copy(&item[19..middle], marks);
     let mut answer = [0u8; 4];
-    let number = phk_screen(mem, word_at(item, 11), word_at(item, 13), marks, &mut answer);
+    let number = phk_screen(
+        mem,
+        word_at(item, 11),
+        word_at(item, 13),
+        marks,
+        &mut answer,
+    );
     let numbered = number == item[15];
     let marked = same(marks, &item[middle..end]);
     let answered = same(&answer, &item[15..19]);
