@@ -1,7 +1,7 @@
 //! Random and exhaustive steps on both cores: registers, flags, IME, latch, halt mode, stopped, outcome, M-cycles and the whole of memory.
 use crate::cpu::{bytes_of, Cpu, CpuState, RunError};
 use crate::ours::{Answer, Block};
-use crate::{flat::FlatBus, ours, screens};
+use crate::{flat::FlatBus, ours, windows};
 use std::io::Write;
 
 pub struct Rng(pub u64);
@@ -248,7 +248,7 @@ pub fn all<W: Write>(out: &mut W, steps: u64, seed: u64) -> i32 {
     refusals(&mut t, &mut r);
     t.say("refusals 1 and 2", since);
     since = t.compared;
-    screens::all(&mut t, &mut r, steps / 10 + 1);
+    windows::all(&mut t, &mut r, steps / 10 + 1);
     t.say("windows screened", since);
     let (compared, differ) = (t.compared, t.differ);
     writeln!(t.out, "compared {compared}, differ {differ}").unwrap();

@@ -6,17 +6,9 @@ mod flat;
 mod ours;
 mod screens;
 mod timing;
+mod windows;
 
-// cpu.rs asks its own crate for these two.
-#[path = "../mizu/interrupts.rs"]
-mod interrupts;
-mod memory {
-    pub use super::interrupts::InterruptType;
-}
-#[derive(Default, Clone, Copy, save_state::Savable)]
-pub struct GameBoyConfig {
-    pub is_dmg: bool,
-}
+include!("around.rs");
 #[path = "mizu.rs"]
 mod cpu;
 

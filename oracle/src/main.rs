@@ -1,21 +1,15 @@
-//! The unmodified Rust core on plain memory. Writes its answers to a fixed sample of steps as pages of crates/vectors/specs.
+//! The unmodified Rust core on plain memory. Writes its answers to a fixed sample of steps: as pages of crates/vectors/specs, or as the file that crates/replay replays.
 #![allow(dead_code)]
 mod bus;
 mod pages;
+mod record;
 mod sample;
+mod screens;
+mod show;
+mod stored;
 mod tables;
 
-// cpu.rs asks its own crate for these two.
-#[path = "../mizu/interrupts.rs"]
-mod interrupts;
-mod memory {
-    pub use super::interrupts::InterruptType;
-}
-
-#[derive(Default, Clone, Copy, save_state::Savable)]
-pub struct GameBoyConfig {
-    pub is_dmg: bool,
-}
+include!("around.rs");
 
 #[derive(Clone, Copy, PartialEq, Debug, Default)]
 pub struct Registers {
@@ -133,9 +127,21 @@ pub fn power_on() -> Vec<State> {
     all.iter().map(|cpu| cpu.get(false, false)).collect()
 }
 
-/// oracle FOLDER [SEED]: writes the pages into the folder. Another seed gives other states for the same opcodes.
+/// oracle pages FOLDER [SEED]: writes the pages into the folder. oracle sample FILE [SEED]: writes the sample to the file. oracle show FILE: says in words what a sample holds.
+/// Another seed gives other states for the same opcodes.
 fn main() {
-    let folder = std::env::args().nth(1).expect("oracle FOLDER [SEED]");
-    let seed = std::env::args().nth(2).map_or(1, |s| s.parse().expect("a number"));
-    pages::write(std::path::Path::new(&folder), seed);
+    let words: Vec<String> = std::env::args().skip(1).collect();
+    let seed = words.get(2).map_or(1, |s| s.parse().unwrap_or_else(|_| usage()));
+    let path = std::path::Path::new(words.get(1).unwrap_or_else(|| usage()));
+    match words[0].as_str() {
+        "pages" => pages::write(path, seed),
+        "sample" => stored::write(path, seed),
+        "show" => show::all(path),
+        _ => usage(),
+    }
+}
+
+fn usage() -> ! {
+    eprintln!("oracle: want 'pages FOLDER [SEED]', 'sample FILE [SEED]' or 'show FILE'");
+    std::process::exit(2)
 }

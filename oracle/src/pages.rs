@@ -24,7 +24,7 @@ fn listed(bytes: &[u8], asked: impl Fn(u16) -> bool) -> String {
 }
 
 /// Only the bytes that are looked at, and the two that interrupts hang on, are kept; all others become 0.
-fn pruned(asked: &Asked, budget: u16) -> Vec<u8> {
+pub fn pruned(asked: &Asked, budget: u16) -> Vec<u8> {
     let looked = run(&asked.state, &asked.bytes, budget).bus.looked;
     (0..=0xffffu16).map(|a| if looked.contains(&a) || a == 0xff0f || a == 0xffff { asked.bytes[a as usize] } else { 0 }).collect()
 }

@@ -9,7 +9,7 @@ impl Chance {
         Chance(0x9e37_79b9_7f4a_7c15 ^ seed.wrapping_mul(0x2545_f491_4f6c_dd1d))
     }
 
-    fn next(&mut self) -> u64 {
+    pub fn next(&mut self) -> u64 {
         self.0 ^= self.0 << 13;
         self.0 ^= self.0 >> 7;
         self.0 ^= self.0 << 17;
@@ -24,7 +24,7 @@ impl Chance {
         self.below(n) == 0
     }
 
-    fn of<A: Copy>(&mut self, choices: &[A]) -> A {
+    pub fn of<A: Copy>(&mut self, choices: &[A]) -> A {
         choices[self.below(choices.len() as u64) as usize]
     }
 
@@ -48,7 +48,7 @@ pub struct Asked {
 }
 
 /// Any registers, with bytes wherever an instruction may look.
-fn anything(g: &mut Chance) -> Asked {
+pub fn anything(g: &mut Chance) -> Asked {
     let mut s = State::default();
     let r = &mut s.registers;
     for place in [&mut r.a, &mut r.b, &mut r.c, &mut r.d, &mut r.e, &mut r.h, &mut r.l] {
@@ -67,7 +67,7 @@ fn anything(g: &mut Chance) -> Asked {
 }
 
 /// How the two bytes of the interrupts stand: none waits, or at least one does.
-fn interrupts(g: &mut Chance, waiting: bool, asked: &mut Asked) {
+pub fn interrupts(g: &mut Chance, waiting: bool, asked: &mut Asked) {
     loop {
         let (flags, enable) = (g.byte(), g.byte());
         if (flags & enable & 0x1f != 0) == waiting {

@@ -3,4 +3,4 @@ mod class;
 mod jumps;
 pub mod screen;
 mod walk;
-mod window;
+pub mod window;

@@ -1,0 +1,18 @@
+-- Shows the budget of a step or of a run, by the test of the kind.
+use borrow.Author.Needs.{needs}
+use borrow.Author.Tests.{eq-eqb, ne-eqb}
+use Rattle.sample.proofs.runs.ask.Statement.{statement}
+use Rattle.sample.proofs.runs.ask.Tie as tie
+
+a-step : tie.Need-returns
+a-step c = simp (eq-eqb _ _ (c .before .before .before .before .before .before .before .before .before .before .if1 .taken)) (c .before .before .before .before .before .before .phk-step .ensures)
+
+a-run : tie.Need-returns-2
+a-run c = simp (ne-eqb _ _ (c .before .before .before .before .before .before .before .before .before .before .if1 .left)) (c .before .before .before .before .before .before .phk-run .ensures)
+
+pub ask-spec : {M : Type 1} → statement M
+ask-spec =
+    tie.close
+    (tie.spec
+    (λ c κs. search needs) (λ c. search needs) (λ c. search needs) (λ c. search needs) a-step
+    (λ c κs. search needs) (λ c. search needs) (λ c. search needs) (λ c. search needs) a-run)

@@ -1,0 +1,59 @@
+// A step or a run of the sample: the core is asked, and every value is compared.
+ghost use mathlib.Core.Path.{_≡_};
+ghost use Prim.Native.Nat.{_+_, _*_, _≤_};
+ghost use lib.ListN.{length};
+ghost use Rattle.library.specs.Left.{left, runBlocks};
+ghost use Rattle.sample.specs.Record.{memoryLength, budgetOf, changed, changesAt, asked, told, sameLeft};
+ghost use Rattle.sample.specs.Replay.{agreesRun};
+use crate::layout::changed;
+use crate::layout::lay;
+use crate::layout::listed;
+use crate::layout::memory_length;
+use crate::layout::wide;
+use crate::slices::patch;
+use crate::slices::same;
+use blocks::bytes::word_at;
+use library::phk_run;
+use library::phk_step;
+
+fn ask(kind: u8, state: &mut [u8], mem: &mut [u8], budget: u16, answer: &mut [u8]) -> u16
+    ensures { λ r. ⌜ left r (now (state .exit)) (now (mem .exit)) (now (answer .exit)) ≡ runBlocks (budgetOf kind budget) (now (state .entry)) (now (mem .entry)) (now (answer .entry)) ⌝ }
+{
+    if kind == 0 {
+        return phk_step(state, mem, answer);
+    }
+    phk_run(state, mem, budget, answer)
+}
+
+// On memory as long as the two slices are.
+fn compare(item: &[u8], mem: &mut [u8], want: &mut [u8]) -> bool
+    requires { ⌜ changesAt (now item) + 3 * changed (now item) ≤ length (now item) ⌝ }
+    ensures { λ r. ⌜ r ≡ sameLeft (asked (now (item .entry)) (length (now (mem .entry)))) (told (now (item .entry)) (length (now (want .entry)))) ⌝ }
+{
+    let from = 87 + 3 * listed(item);
+    let count = changed(item);
+    lay(item, 87, mem);
+    lay(item, 87, want);
+    patch(item, from, count, want);
+    let mut state = [0u8; 24];
+    bytes::copy(&item[15..39], &mut state);
+    let mut answer = [0u8; 24];
+    let number = ask(item[2], &mut state, mem, word_at(item, 11), &mut answer);
+    let numbered = number == word_at(item, 63);
+    let stated = same(&state, &item[39..63]);
+    let kept = same(mem, want);
+    let answered = same(&answer, &item[63..87]);
+    numbered & (stated & (kept & answered))
+}
+
+pub fn run_agrees(item: &[u8], mem: &mut [u8], want: &mut [u8]) -> bool
+    requires { ⌜ (15 ≤ length (now item)) × (memoryLength (now item) ≤ length (now mem)) × (memoryLength (now item) ≤ length (now want)) ⌝ }
+    ensures { λ r. ⌜ r ≡ agreesRun (now (item .entry)) ⌝ }
+{
+    let size = 87 + 3 * listed(item) + 3 * changed(item) + wide(item[3]);
+    if item.len() != size {
+        return false;
+    }
+    let n = memory_length(item);
+    compare(item, &mut mem[..n], &mut want[..n])
+}
