@@ -1,0 +1,4 @@
+-- What is proved of text.
+pub mod Written
+pub mod Decimal
+pub mod Words
