@@ -2,3 +2,4 @@
 pub mod Written
 pub mod Decimal
 pub mod Words
+pub mod ByteRead

@@ -1,7 +1,7 @@
 // Numbers as a person writes them: decimal, as 336, or hexadecimal, as 0x0150. Each way to be wrong has its number.
 ghost use mathlib.Core.Path.{_≡_};
 ghost use Prim.Native.Nat.{_<_, _≤_};
-ghost use Rattle.text.specs.Number.{valueOf, timesBase, stoppedBy, grown};
+ghost use Rattle.text.specs.Number.{valueOf, timesBase, stoppedBy, grown, decimalStage, readDecimal, readHex, readByte, reads, ended, numberIn};
 
 pub const EMPTY: u8 = 1;
 
@@ -96,4 +96,109 @@ fn grown(r: Reading, stage: u8, hex: bool, digit: u8) -> Reading
         value: value,
         wrong: r.wrong,
     }
+}
+
+// A 0 in front may become 0x.
+fn decimal_stage(stage: u8, digit: u8) -> u8
+    ensures { λ r. ⌜ r ≡ decimalStage stage digit ⌝ }
+{
+    let first = stage == 0;
+    let nought = digit == 0;
+    let zero = first & nought;
+    if zero { 1 } else { 2 }
+}
+
+fn read_decimal(r: Reading, digit: u8) -> Reading
+    ensures { λ x. ⌜ x ≡ readDecimal r digit ⌝ }
+{
+    let decimal = digit < 10;
+    if decimal {
+        let stage = decimal_stage(r.stage, digit);
+        return grown(r, stage, false, digit);
+    }
+    let letter = digit < 16;
+    if letter {
+        return stopped(r, HEX_WITHOUT_0X);
+    }
+    let h = digit == 16;
+    if h {
+        return stopped(r, H_AT_THE_END);
+    }
+    stopped(r, NOT_A_DIGIT)
+}
+
+fn read_hex(r: Reading, digit: u8) -> Reading
+    ensures { λ x. ⌜ x ≡ readHex r digit ⌝ }
+{
+    let hex = digit < 16;
+    if hex {
+        return grown(r, 4, true, digit);
+    }
+    let h = digit == 16;
+    if h {
+        return stopped(r, H_AT_THE_END);
+    }
+    stopped(r, NOT_A_DIGIT)
+}
+
+// One byte more. The first mistake stays.
+fn read_byte(r: Reading, b: u8) -> Reading
+    ensures { λ x. ⌜ x ≡ readByte r b ⌝ }
+{
+    let bad = 0 < r.wrong;
+    if bad {
+        return r;
+    }
+    let digit = value_of(b);
+    let hex = 2 < r.stage;
+    if hex {
+        return read_hex(r, digit);
+    }
+    let zero = r.stage == 1;
+    let small = b == 120;
+    let large = b == 88;
+    let x = small | large;
+    let prefix = zero & x;
+    if prefix {
+        return Reading {
+            stage: 3,
+            value: 0,
+            wrong: 0,
+        };
+    }
+    read_decimal(r, digit)
+}
+
+fn ended(r: Reading) -> Reading
+    ensures { λ x. ⌜ x ≡ ended r ⌝ }
+{
+    let bad = 0 < r.wrong;
+    if bad {
+        return r;
+    }
+    let nothing = r.stage == 0;
+    if nothing {
+        return stopped(r, EMPTY);
+    }
+    let bare = r.stage == 3;
+    if bare {
+        return stopped(r, NO_DIGIT_AFTER_0X);
+    }
+    r
+}
+
+pub fn number_in(text: &[u8]) -> Reading
+    ensures { λ r. ⌜ r ≡ numberIn (now (text .entry)) ⌝ }
+{
+    let mut r = Reading {
+        stage: 0,
+        value: 0,
+        wrong: 0,
+    };
+    let mut i = 0;
+    while i < text.len() {
+        r = read_byte(r, text[i]);
+        i += 1;
+    }
+    ended(r)
 }
