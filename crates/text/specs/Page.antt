@@ -1,4 +1,5 @@
 -- A lent slice with the next place to write to, and what writing a list of bytes there leaves.
+use mathlib.Core.Path.{_≡_}
 use mathlib.Core.Bool.{Bool, true, false}
 use mathlib.Core.List.{List, [], _∷_}
 use Prim.Native.Nat.{ℕ, _+_}
@@ -28,7 +29,16 @@ abbrev pub written : Page → List ℕ → Page
 written p [] = p
 written p (b ∷ bs) = written (putByte p b) bs
 
+-- the page after is the page before with these bytes written
+pub record Wrote (before : Page) (bytes : List ℕ) (after : Page) : Type 0 where
+  pub is : after ≡ written before bytes
+
 -- a text as its bytes
 abbrev pub ascii : String → List ℕ
 ascii none = []
 ascii (c then s) = code c ∷ ascii s
+
+-- a text that may be left out
+abbrev pub when : Bool → List ℕ → List ℕ
+when true bytes = bytes
+when false bytes = []

@@ -32,11 +32,11 @@ loop-again c =
       put .kept .0 ∙ at .inv .0,
       omega arith,
       next-scale (at .places) (turn .loop-test .taken) (at .inv .2),
-      one-digit (at .places) _ (page (at .next) (at .out)) (turn .loop-test .taken) (at .inv .2) (put .ensures) ∙ at .inv .3,
+      one-digit (at .places) _ (page (at .next) (at .out)) (turn .loop-test .taken) (at .inv .2) (put .ensures .is) ∙ at .inv .3,
     )
 
 returns : tie.Need-returns Inv-loop μ-loop
-returns c = ended (c .before .loop .places) _ _ (c .loop-test .left) (c .before .loop .inv .3)
+returns c = record { is = ended (c .before .loop .places) _ _ (c .loop-test .left) (c .before .loop .inv .3) }
 
 pub put-decimal-spec : {M : Type 1} → statement M
 put-decimal-spec = tie.close (tie.spec Inv-loop μ-loop loop-holds scale-some (λ c. omega arith) (λ c. omega arith) loop-again (λ c. omega arith) returns)

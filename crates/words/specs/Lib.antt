@@ -1,0 +1,3 @@
+-- What the tool says.
+pub mod Sentence
+pub mod Mistake

@@ -1,0 +1,3 @@
+// What the tool says: sentences chosen by number, and lines of numbers, written to a lent slice.
+pub mod mistake;
+pub mod sentence;
