@@ -16,8 +16,9 @@ pub nothing : {p : Page} → Wrote p [] p
 nothing = record { is = refl }
 
 -- one text, and then another
-pub then : {p q r : Page} {xs ys : List ℕ} → Wrote p xs q → Wrote q ys r → Wrote p (xs ++ ys) r
-then {p} {q} {r} {xs} {ys} first second =
+infixl 20 _⨾_
+pub _⨾_ : {p q r : Page} {xs ys : List ℕ} → Wrote p xs q → Wrote q ys r → Wrote p (xs ++ ys) r
+_⨾_ {p} {q} {r} {xs} {ys} first second =
     record { is = second .is ∙ ap (λ (x : Page). written x ys) (first .is) ∙ sym (written-append p xs ys) }
 
 pub with-room : (at : ℕ) (out : List ℕ) (b : ℕ) → at < length out → Wrote (page at out) (b ∷ []) (page (at + 1) (set out at b))
@@ -31,7 +32,7 @@ without-room at out b full = record { is = simp (le-ltb at (length out) full) }
 -- one turn of the loop that writes a text, and its end
 pub one-more : {p q r : Page} (text : List ℕ) (i : ℕ) → i < length text → Wrote p (take i text) q → Wrote q (getD text i 0 ∷ []) r → Wrote p (take (i + 1) text) r
 one-more {p} {q} {r} text i more so-far byte =
-    subst (λ (l : List ℕ). Wrote p l r) (sym (take-suc text i 0 more) ∙ ap (λ (n : ℕ). take n text) (sym (add-one i))) (then so-far byte)
+    subst (λ (l : List ℕ). Wrote p l r) (sym (take-suc text i 0 more) ∙ ap (λ (n : ℕ). take n text) (sym (add-one i))) (so-far ⨾ byte)
 
 pub all-of-it : {p q : Page} (text : List ℕ) (i : ℕ) → length text ≤ i → Wrote p (take i text) q → Wrote p text q
 all-of-it {p} {q} text i none-left so-far = subst (λ (l : List ℕ). Wrote p l q) (take-all i text none-left) so-far

@@ -1,12 +1,12 @@
 // What is wrong with a command line, in words.
 ghost use mathlib.Core.Path.{_≡_};
-ghost use Rattle.text.specs.Page.{page, written};
+ghost use Rattle.text.specs.Page.{page, Wrote};
 ghost use Rattle.words.specs.Mistake.{slotText, mistakeText};
 use text::page::put_when;
 
 // What a word of the command line stands for.
 pub fn put_slot(out: &mut [u8], at: usize, number: u8) -> usize
-    ensures { λ r. ⌜ page r (now (out .exit)) ≡ written (page at (now (out .entry))) (slotText number) ⌝ }
+    ensures { λ r. ⌜ Wrote (page at (now (out .entry))) (slotText number) (page r (now (out .exit))) ⌝ }
 {
     let at = put_when(out, at, number == 0, b"IMAGE");
     let at = put_when(out, at, number == 1, b"FIRST");
@@ -25,7 +25,7 @@ pub fn put_slot(out: &mut [u8], at: usize, number: u8) -> usize
 
 // What is wrong with a command line, and what was expected.
 pub fn put_mistake(out: &mut [u8], at: usize, number: u8) -> usize
-    ensures { λ r. ⌜ page r (now (out .exit)) ≡ written (page at (now (out .entry))) (mistakeText number) ⌝ }
+    ensures { λ r. ⌜ Wrote (page at (now (out .entry))) (mistakeText number) (page r (now (out .exit))) ⌝ }
 {
     let at = put_when(out, at, number == 1, b"no command was given; expected screen, run, step, version or help");
     let at = put_when(out, at, number == 2, b"no such command; expected screen, run, step, version or help");

@@ -1,12 +1,12 @@
 // Sentences: the rule that was broken, and how a step or a run ended.
 ghost use mathlib.Core.Path.{_≡_};
-ghost use Rattle.text.specs.Page.{page, written};
+ghost use Rattle.text.specs.Page.{page, Wrote};
 ghost use Rattle.words.specs.Sentence.{ruleText, outcomeText, briefText};
 use text::page::put_when;
 
 // The rule that a refusal means was broken, and what to do.
 pub fn put_rule(out: &mut [u8], at: usize, number: u8) -> usize
-    ensures { λ r. ⌜ page r (now (out .exit)) ≡ written (page at (now (out .entry))) (ruleText number) ⌝ }
+    ensures { λ r. ⌜ Wrote (page at (now (out .entry))) (ruleText number) (page r (now (out .exit))) ⌝ }
 {
     let at = put_when(out, at, number == 1, b"the memory is not 65,536 bytes long; give a whole image, or say with --at where a part of one lies");
     let at = put_when(out, at, number == 2, b"the low four bits of F are not 0; start from a power-on state");
@@ -22,7 +22,7 @@ pub fn put_rule(out: &mut [u8], at: usize, number: u8) -> usize
 
 // How a step or a run ended.
 pub fn put_outcome(out: &mut [u8], at: usize, number: u16) -> usize
-    ensures { λ r. ⌜ page r (now (out .exit)) ≡ written (page at (now (out .entry))) (outcomeText number) ⌝ }
+    ensures { λ r. ⌜ Wrote (page at (now (out .entry))) (outcomeText number) (page r (now (out .exit))) ⌝ }
 {
     let at = put_when(out, at, number == 0, b"an instruction ran, and the processor goes on");
     let at = put_when(out, at, number == 1, b"it loops for ever: the jump at PC jumps to itself");
@@ -40,7 +40,7 @@ pub fn put_outcome(out: &mut [u8], at: usize, number: u16) -> usize
 
 // How a step ended, in a word.
 pub fn put_brief(out: &mut [u8], at: usize, number: u16) -> usize
-    ensures { λ r. ⌜ page r (now (out .exit)) ≡ written (page at (now (out .entry))) (briefText number) ⌝ }
+    ensures { λ r. ⌜ Wrote (page at (now (out .entry))) (briefText number) (page r (now (out .exit))) ⌝ }
 {
     let at = put_when(out, at, number == 0, b"ran");
     let at = put_when(out, at, number == 1, b"loops for ever");
