@@ -1,3 +1,4 @@
 -- What the tool says.
 pub mod Sentence
 pub mod Mistake
+pub mod Registers

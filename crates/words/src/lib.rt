@@ -1,3 +1,4 @@
 // What the tool says: sentences chosen by number, and lines of numbers, written to a lent slice.
 pub mod mistake;
+pub mod registers;
 pub mod sentence;
