@@ -2,3 +2,4 @@
 pub mod Sentence
 pub mod Mistake
 pub mod Registers
+pub mod Lines
