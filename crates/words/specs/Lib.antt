@@ -3,3 +3,4 @@ pub mod Sentence
 pub mod Mistake
 pub mod Registers
 pub mod Lines
+pub mod Cells

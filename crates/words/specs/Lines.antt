@@ -3,6 +3,7 @@ use mathlib.Core.Bool.{Bool, _&&_}
 use mathlib.Core.List.{List, [], _∷_, _++_}
 use Prim.Native.Nat.{ℕ}
 use lib.Dec.{eqb}
+use lib.ListN.{length}
 use Rattle.sm83.specs.declared.registers.CpuRegisters.{CpuRegisters}
 use Rattle.text.specs.Page.{choose, when, ascii}
 use Rattle.text.specs.Digits.{hex2, hex4, decimal}
@@ -60,12 +61,12 @@ cellText kind colour =
     ++ when (eqb kind 4) (ascii "X")
     ++ when colour (27 ∷ ascii "[0m")
 
--- what a person wrote, between quotes
+-- what a person wrote, between quotes; nothing if it is empty
 abbrev pub quotedText : List ℕ → List ℕ
-quotedText word = ascii " '" ++ word ++ ascii "'"
+quotedText word = choose (eqb (length word) 0) [] (ascii " '" ++ word ++ ascii "'")
 
--- a mistake in the command line: what the word stands for, if it is known, the word, and what was expected
+-- a mistake in the command line: what the word stands for, if that is known, the word, and what was expected
 unfoldable pub mistakeLine : Bool → ℕ → List ℕ → ℕ → List ℕ
 mistakeLine named slot word wrong =
     choose named (ascii "phk: " ++ slotText slot ++ quotedText word ++ ascii ": " ++ mistakeText wrong ++ ascii "\n")
-    (ascii "phk: " ++ quotedText word ++ ascii ": " ++ mistakeText wrong ++ ascii "\n")
+    (ascii "phk:" ++ quotedText word ++ ascii " " ++ mistakeText wrong ++ ascii "\n")

@@ -3,3 +3,4 @@ pub mod lines;
 pub mod mistake;
 pub mod registers;
 pub mod sentence;
+pub mod shape;

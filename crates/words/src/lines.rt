@@ -117,29 +117,34 @@ pub fn put_cell(out: &mut [u8], at: usize, kind: u8, colour: bool) -> usize
     put_when(out, at, colour, b"\x1b[0m")
 }
 
-// What a person wrote, between quotes.
+// What a person wrote, between quotes; nothing if it is empty.
 fn put_quoted(out: &mut [u8], at: usize, word: &[u8]) -> usize
     ensures { λ r. ⌜ Wrote (page at (now (out .entry))) (quotedText (now (word .entry))) (page r (now (out .exit))) ⌝ }
 {
+    let empty = word.len() == 0;
+    if empty {
+        return at;
+    }
     let at = put(out, at, b" '");
     let at = put(out, at, word);
     put(out, at, b"'")
 }
 
-// A mistake in the command line: what the word stands for, the word, and what was expected.
+// A mistake in the command line: what the word stands for, if that is known, the word, and what was expected.
 pub fn put_mistake_line(out: &mut [u8], at: usize, named: bool, slot: u8, word: &[u8], wrong: u8) -> usize
     ensures { λ r. ⌜ Wrote (page at (now (out .entry))) (mistakeLine named slot (now (word .entry)) wrong) (page r (now (out .exit))) ⌝ }
 {
-    let at = put(out, at, b"phk: ");
     if named {
+        let at = put(out, at, b"phk: ");
         let at = put_slot(out, at, slot);
         let at = put_quoted(out, at, word);
         let at = put(out, at, b": ");
         let at = put_mistake(out, at, wrong);
         return put(out, at, b"\n");
     }
+    let at = put(out, at, b"phk:");
     let at = put_quoted(out, at, word);
-    let at = put(out, at, b": ");
+    let at = put(out, at, b" ");
     let at = put_mistake(out, at, wrong);
     put(out, at, b"\n")
 }
