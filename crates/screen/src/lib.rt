@@ -1,5 +1,5 @@
 // The routine screen in code. What it answers is the definition's `screen` (the crate `routine`), for every input.
-mod class;
+pub mod class;
 mod jumps;
 pub mod screen;
 mod walk;

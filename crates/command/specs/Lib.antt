@@ -1,0 +1,4 @@
+-- What a command line means.
+pub mod Line
+pub mod Names
+pub mod Take

@@ -1,0 +1,296 @@
+// One word of a command line, and its end. The first mistake stays.
+ghost use mathlib.Core.Path.{_≡_};
+ghost use Rattle.command.specs.Take.{isPath, allows, missing, numberMistake, kept, isDashed, takeNumber, takeState, takeValue, takeOption, takeDashed, takePlain, takeCommand, takeWord, finished};
+use crate::line::ASKS_HELP;
+use crate::line::FIRST;
+use crate::line::IMAGE;
+use crate::line::LAST;
+use crate::line::Line;
+use crate::line::MAP;
+use crate::line::MARKS;
+use crate::line::OUT;
+use crate::line::SCREEN;
+use crate::line::STATE;
+use crate::line::STEPS;
+use crate::line::TRACE;
+use crate::line::VERSION;
+use crate::names::command_number;
+use crate::names::option_number;
+use crate::names::state_number;
+use text::number::number_in;
+
+// The mistakes. 21 to 26 are those of a number (`text::number`).
+pub const NO_COMMAND: u8 = 1;
+
+pub const UNKNOWN_COMMAND: u8 = 2;
+
+pub const UNKNOWN_OPTION: u8 = 3;
+
+pub const NOT_HERE: u8 = 4;
+
+pub const TWICE: u8 = 5;
+
+pub const NO_VALUE: u8 = 6;
+
+pub const TOO_MANY: u8 = 7;
+
+pub const NOT_GIVEN: u8 = 8;
+
+pub const UNKNOWN_STATE: u8 = 9;
+
+pub const REVERSED: u8 = 10;
+
+pub const BAD_NUMBER: u8 = 20;
+
+pub const ABOVE_FFFF: u8 = 27;
+
+// A path is kept by its word's index.
+fn is_path(key: u8) -> bool
+    ensures { λ r. ⌜ r ≡ isPath key ⌝ }
+{
+    let image = key == IMAGE;
+    let out = key == OUT;
+    image | out
+}
+
+// Whether an option belongs to a command: --marks and --map to screen, --at to all three, --help to each, the rest to run and step,
+// but --steps and --trace to run alone.
+fn allows(command: u8, key: u8) -> bool
+    ensures { λ r. ⌜ r ≡ allows command key ⌝ }
+{
+    let help = key == ASKS_HELP;
+    if help {
+        return true;
+    }
+    let other = VERSION <= command;
+    if other {
+        return false;
+    }
+    let at = key < STATE;
+    if at {
+        return true;
+    }
+    let marks = key == MARKS;
+    let map = key == MAP;
+    let screens = marks | map;
+    let screen = command == SCREEN;
+    if screen {
+        return screens;
+    }
+    if screens {
+        return false;
+    }
+    let steps = key == STEPS;
+    let trace = key == TRACE;
+    let runs = steps | trace;
+    let run = command == 2;
+    if runs { run } else { true }
+}
+
+// The first slot that a command has for a plain word and the line does not fill; 13 if there is none.
+fn missing(line: Line) -> u8
+    ensures { λ r. ⌜ r ≡ missing line ⌝ }
+{
+    let other = VERSION <= line.command;
+    if other {
+        return 13;
+    }
+    let no_image = line.slot_of(IMAGE) == 0;
+    if no_image {
+        return IMAGE;
+    }
+    let not_screen = 1 < line.command;
+    if not_screen {
+        return 13;
+    }
+    let no_first = line.slot_of(FIRST) == 0;
+    if no_first {
+        return FIRST;
+    }
+    let no_last = line.slot_of(LAST) == 0;
+    if no_last { LAST } else { 13 }
+}
+
+fn number_mistake(wrong: u8) -> u8
+    ensures { λ r. ⌜ r ≡ numberMistake wrong ⌝ }
+{
+    let known = wrong < 7;
+    if known { BAD_NUMBER + wrong } else { BAD_NUMBER }
+}
+
+// As a slot keeps a number: 0 is for nothing.
+fn kept(value: u64) -> u64
+    ensures { λ r. ⌜ r ≡ kept value ⌝ }
+{
+    let small = value < 4294967296;
+    if small { value + 1 } else { 0 }
+}
+
+// A number for a slot: any for --steps, an address for the others.
+fn take_number(line: Line, key: u8, word: &[u8], index: usize) -> Line
+    ensures { λ r. ⌜ r ≡ takeNumber line key (now (word .entry)) index ⌝ }
+{
+    let read = number_in(word);
+    let bad = 0 < read.wrong;
+    if bad {
+        return line.mistaken(number_mistake(read.wrong), key, index);
+    }
+    let steps = key == STEPS;
+    if steps {
+        return line.stored(key, kept(read.value));
+    }
+    let large = 65535 < read.value;
+    if large {
+        return line.mistaken(ABOVE_FFFF, key, index);
+    }
+    line.stored(key, kept(read.value))
+}
+
+fn take_state(line: Line, word: &[u8], index: usize) -> Line
+    ensures { λ r. ⌜ r ≡ takeState line (now (word .entry)) index ⌝ }
+{
+    let state = state_number(word);
+    let unknown = state == 0;
+    if unknown {
+        return line.mistaken(UNKNOWN_STATE, STATE, index);
+    }
+    line.stored(STATE, state as u64)
+}
+
+fn take_value(line: Line, key: u8, word: &[u8], index: usize) -> Line
+    ensures { λ r. ⌜ r ≡ takeValue line key (now (word .entry)) index ⌝ }
+{
+    let path = is_path(key);
+    if path {
+        return line.stored(key, index as u64);
+    }
+    let state = key == STATE;
+    if state {
+        return take_state(line, word, index);
+    }
+    take_number(line, key, word, index)
+}
+
+fn take_option(line: Line, key: u8, index: usize) -> Line
+    ensures { λ r. ⌜ r ≡ takeOption line key index ⌝ }
+{
+    let allowed = allows(line.command, key);
+    let no_place = !allowed;
+    if no_place {
+        return line.mistaken(NOT_HERE, key, index);
+    }
+    let given = 0 < line.slot_of(key);
+    if given {
+        return line.mistaken(TWICE, key, index);
+    }
+    let alone = OUT < key;
+    if alone {
+        return line.stored(key, 1);
+    }
+    line.awaiting(key)
+}
+
+// A word that begins with -.
+fn take_dashed(line: Line, word: &[u8], index: usize) -> Line
+    ensures { λ r. ⌜ r ≡ takeDashed line (now (word .entry)) index ⌝ }
+{
+    let key = option_number(word);
+    let unknown = key == 0;
+    if unknown {
+        return line.mistaken(UNKNOWN_OPTION, 0, index);
+    }
+    take_option(line, key, index)
+}
+
+fn take_plain(line: Line, word: &[u8], index: usize) -> Line
+    ensures { λ r. ⌜ r ≡ takePlain line (now (word .entry)) index ⌝ }
+{
+    let key = missing(line);
+    let none = 12 < key;
+    if none {
+        return line.mistaken(TOO_MANY, 0, index);
+    }
+    take_value(line, key, word, index)
+}
+
+fn take_command(line: Line, word: &[u8], index: usize) -> Line
+    ensures { λ r. ⌜ r ≡ takeCommand line (now (word .entry)) index ⌝ }
+{
+    let command = command_number(word);
+    let unknown = command == 0;
+    if unknown {
+        return line.mistaken(UNKNOWN_COMMAND, 0, index);
+    }
+    let slots = line.slots;
+    Line {
+        command: command,
+        awaits: line.awaits,
+        wrong: line.wrong,
+        slot: line.slot,
+        word: line.word,
+        slots: slots,
+    }
+}
+
+fn is_dashed(word: &[u8]) -> bool
+    ensures { λ r. ⌜ r ≡ isDashed (now (word .entry)) ⌝ }
+{
+    let some = 0 < word.len();
+    if some { word[0] == 45 } else { false }
+}
+
+pub fn take(line: Line, word: &[u8], index: usize) -> Line
+    ensures { λ r. ⌜ r ≡ takeWord line (now (word .entry)) index ⌝ }
+{
+    let bad = 0 < line.wrong;
+    if bad {
+        return line;
+    }
+    let awaits = line.awaits;
+    let awaited = 0 < awaits;
+    if awaited {
+        return take_value(line, awaits, word, index);
+    }
+    let first = line.command == 0;
+    if first {
+        return take_command(line, word, index);
+    }
+    let dashed = is_dashed(word);
+    if dashed {
+        return take_dashed(line, word, index);
+    }
+    take_plain(line, word, index)
+}
+
+// The end of the line.
+pub fn finish(line: Line) -> Line
+    ensures { λ r. ⌜ r ≡ finished line ⌝ }
+{
+    let bad = 0 < line.wrong;
+    if bad {
+        return line;
+    }
+    let helps = 0 < line.slot_of(ASKS_HELP);
+    if helps {
+        return line;
+    }
+    let awaits = line.awaits;
+    let awaited = 0 < awaits;
+    if awaited {
+        return line.mistaken(NO_VALUE, awaits, 0);
+    }
+    let nothing = line.command == 0;
+    if nothing {
+        return line.mistaken(NO_COMMAND, 0, 0);
+    }
+    let lacking = missing(line);
+    let lacks = lacking < 13;
+    if lacks {
+        return line.mistaken(NOT_GIVEN, lacking, 0);
+    }
+    let reversed = line.slot_of(LAST) < line.slot_of(FIRST);
+    if reversed {
+        return line.mistaken(REVERSED, FIRST, 0);
+    }
+    line
+}

@@ -1,0 +1,199 @@
+// The image is read, and memory is written to a new file that is renamed into place.
+use crate::said::say;
+use crate::said::within;
+use command::line::AT;
+use command::line::IMAGE;
+use command::line::Line;
+use text::digits::put_decimal;
+use text::digits::put_hex4;
+use text::page::put;
+
+// A slot's number; the slot holds one more.
+pub fn number(slot: u64) -> u16 {
+    if slot == 0 {
+        return 0;
+    }
+    let n = slot - 1;
+    if n < 65536 { n as u16 } else { 0 }
+}
+
+fn length_of(n: usize) -> u64 {
+    n as u64
+}
+
+// "phk: IMAGE 'the path'"
+fn put_image(out: &mut [u8], path: &[u8]) -> usize {
+    let at = put(out, 0, b"phk: IMAGE '");
+    let at = put(out, at, path);
+    put(out, at, b"'")
+}
+
+fn cannot_read(path: &[u8]) {
+    let mut out = io::large_buffer();
+    let at = put_image(&mut out, path);
+    let at = put(&mut out, at, b", expected a file that can be read");
+    let n = within(&out, at);
+    os::fail(&out[..n]);
+}
+
+fn too_short(path: &[u8], length: usize) {
+    let mut out = io::large_buffer();
+    let at = put_image(&mut out, path);
+    let at = put(&mut out, at, b": ");
+    let at = put_decimal(&mut out, at, length_of(length));
+    let at = put(&mut out, at, b" bytes, expected 65536; say with --at ADDRESS where a part of memory lies\n");
+    say(2, &out, at);
+}
+
+fn too_long(path: &[u8], room: usize) {
+    let mut out = io::large_buffer();
+    let at = put_image(&mut out, path);
+    let at = put(&mut out, at, b": too long, expected at most ");
+    let at = put_decimal(&mut out, at, length_of(room));
+    let at = put(&mut out, at, b" bytes up to address FFFF\n");
+    say(2, &out, at);
+}
+
+fn partly(path: &[u8], from: u16, length: usize) {
+    let mut out = io::large_buffer();
+    let at = put_image(&mut out, path);
+    let at = put(&mut out, at, b": ");
+    let at = put_decimal(&mut out, at, length_of(length));
+    let at = put(&mut out, at, b" bytes at ");
+    let at = put_hex4(&mut out, at, from);
+    let at = put(&mut out, at, b"; every other byte of memory is 0\n");
+    say(2, &out, at);
+}
+
+// -1 a read failed, 0 the file ends here, 1 it goes on.
+fn goes_on(fd: i32) -> i32 {
+    let mut one = [0u8; 1];
+    let got = libc::read(fd, &mut one);
+    if got < 0 {
+        return -1;
+    }
+    if got == 0 { 0 } else { 1 }
+}
+
+fn read_part(fd: i32, mem: &mut [u8], from: usize) -> usize {
+    if from <= mem.len() {
+        return io::read_full(fd, &mut mem[from..]);
+    }
+    0
+}
+
+fn load_from(fd: i32, path: &[u8], mem: &mut [u8], given: bool, from: u16) -> bool {
+    let room = 65536 - (from as usize);
+    let n = read_part(fd, mem, from as usize);
+    let more = goes_on(fd);
+    if more < 0 {
+        cannot_read(path);
+        return false;
+    }
+    if 0 < more {
+        too_long(path, room);
+        return false;
+    }
+    if given {
+        partly(path, from, n);
+        return true;
+    }
+    if n < 65536 {
+        too_short(path, n);
+        return false;
+    }
+    true
+}
+
+fn load_named(path: &[u8], mem: &mut [u8], at: u64) -> bool {
+    let fd = os::open_read(path);
+    if fd < 0 {
+        cannot_read(path);
+        return false;
+    }
+    let done = load_from(fd, path, mem, at != 0, number(at));
+    libc::close(fd);
+    done
+}
+
+fn index(slot: u64) -> usize {
+    slot as usize
+}
+
+pub fn load(line: Line, mem: &mut [u8]) -> bool {
+    let mut path = io::buffer();
+    let n = os::arg(index(line.slot_of(IMAGE)), &mut path);
+    load_named(&path[..n], mem, line.slot_of(AT))
+}
+
+fn cannot_write(path: &[u8]) -> bool {
+    let mut out = io::large_buffer();
+    let at = put(&mut out, 0, b"phk: --out '");
+    let at = put(&mut out, at, path);
+    let at = put(&mut out, at, b"', expected a name in a folder that can be written to");
+    let n = within(&out, at);
+    os::fail(&out[..n]);
+    false
+}
+
+// All bytes, to the disk.
+fn fill(fd: i32, mem: &[u8]) -> bool {
+    let written = io::write_all(fd, mem);
+    let kept = libc::fsync(fd);
+    let closed = libc::close(fd);
+    if closed < 0 {
+        return false;
+    }
+    if kept < 0 {
+        return false;
+    }
+    written
+}
+
+// The launcher hears the name of the new file first, so that it can remove it if the program is stopped in between.
+fn tell(tells: bool, path: &[u8]) {
+    if tells {
+        io::write_all(3, b"+");
+        io::write_all(3, path);
+        io::write_all(3, b"\n");
+    }
+}
+
+fn save_as(new: &[u8], path: &[u8], mem: &[u8], tells: bool) -> bool {
+    let fd = os::create(new);
+    if fd < 0 {
+        return cannot_write(path);
+    }
+    tell(tells, new);
+    let filled = fill(fd, mem);
+    if !filled {
+        let said = cannot_write(path);
+        os::unlink(new);
+        return said;
+    }
+    let renamed = os::rename(new, path);
+    if renamed < 0 {
+        let said = cannot_write(path);
+        os::unlink(new);
+        return said;
+    }
+    true
+}
+
+pub fn save(slot: u64, mem: &[u8], tells: bool) -> bool {
+    let mut path = io::buffer();
+    let n = os::arg(index(slot), &mut path);
+    save_named(&path[..n], mem, tells)
+}
+
+// The new file's name is the file's with .new- and the program's first word, in which the launcher puts its process's number.
+fn save_named(path: &[u8], mem: &[u8], tells: bool) -> bool {
+    let mut word = io::buffer();
+    let k = os::arg(1, &mut word);
+    let mut new = io::large_buffer();
+    let at = put(&mut new, 0, path);
+    let at = put(&mut new, at, b".new-");
+    let at = put(&mut new, at, &word[..k]);
+    let n = within(&new, at);
+    save_as(&new[..n], path, mem, tells)
+}

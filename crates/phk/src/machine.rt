@@ -1,0 +1,317 @@
+// phk run and phk step.
+use crate::file;
+use crate::file::number;
+use crate::said;
+use crate::said::Env;
+use crate::said::say;
+use crate::screening::after;
+use crate::screening::byte;
+use command::line::Line;
+use command::line::OUT;
+use command::line::PC;
+use command::line::SP;
+use command::line::STATE;
+use command::line::STEP;
+use command::line::STEPS;
+use command::line::TRACE;
+use command::names::CGB;
+use command::names::CGB_DMG;
+use command::names::ZERO;
+use run::run;
+use run::step;
+use sm83::addr::Addr;
+use sm83::registers::CpuRegisters;
+use sm83::state::Cpu;
+use text::digits::put_decimal;
+use text::page::put;
+use words::lines::put_change;
+use words::lines::put_refused;
+use words::lines::put_start;
+use words::lines::put_step;
+use words::lines::put_totals;
+use words::registers::put_registers;
+use words::sentence::put_outcome;
+use words::shape::length_of;
+
+// How far a run has come.
+struct Far {
+    cpu: Cpu,
+    last: u16,
+    steps: u64,
+    cycles: u64,
+}
+
+fn at_power_on(state: u64) -> Cpu {
+    if state == (CGB as u64) {
+        return Cpu::cgb();
+    }
+    if state == (CGB_DMG as u64) {
+        return Cpu::cgb_dmg();
+    }
+    if state == (ZERO as u64) {
+        return Cpu::new(true);
+    }
+    Cpu::dmg()
+}
+
+fn with_pc(r: CpuRegisters, slot: u64) -> CpuRegisters {
+    let mut x = r;
+    if slot != 0 {
+        let a = Addr(number(slot));
+        x.pc = a;
+    }
+    x
+}
+
+fn with_sp(r: CpuRegisters, slot: u64) -> CpuRegisters {
+    let mut x = r;
+    if slot != 0 {
+        let a = Addr(number(slot));
+        x.sp = a;
+    }
+    x
+}
+
+fn started(line: Line) -> Cpu {
+    let c = at_power_on(line.slot_of(STATE));
+    let r = with_sp(with_pc(c.registers, line.slot_of(PC)), line.slot_of(SP));
+    Cpu::with_registers(r, c.dmg)
+}
+
+// "it stops early only after InfiniteLoop, Breakpoint, Stopped or a refusal", by their numbers
+fn stops(last: u16) -> bool {
+    if last == 1 {
+        return true;
+    }
+    if last == 4 {
+        return true;
+    }
+    if last == 5 {
+        return true;
+    }
+    16 < last
+}
+
+// A step with its line: what stands before it, then what it did.
+fn traced(far: Far, mem: &mut [u8]) -> Far {
+    let cpu = far.cpu;
+    let before = cpu.registers;
+    let pc = before.pc;
+    let a = pc.0;
+    let b = byte(mem, a);
+    let mut out = [0u8; 128];
+    let n = put_start(&mut out, 0, a, length_of(b), b, byte(mem, after(a, 1)), byte(mem, after(a, 2)));
+    let n = put(&mut out, n, b" ");
+    let x = step(cpu, mem);
+    let cycles = x.cycles;
+    let outcome = x.outcome;
+    let last = outcome.number();
+    let n = put_step(&mut out, n, before, cycles.0 as u64, last);
+    say(1, &out, n);
+    let next = x.cpu;
+    Far {
+        cpu: next,
+        last: last,
+        steps: std::num::wrapping_add_u64(far.steps, 1),
+        cycles: std::num::wrapping_add_u64(far.cycles, cycles.0 as u64),
+    }
+}
+
+fn ran(far: Far, mem: &mut [u8], budget: u16) -> Far {
+    let x = run(far.cpu, mem, budget);
+    let cycles = x.cycles;
+    let last = x.last;
+    let next = x.cpu;
+    Far {
+        cpu: next,
+        last: last.number(),
+        steps: std::num::wrapping_add_u64(far.steps, x.steps as u64),
+        cycles: std::num::wrapping_add_u64(far.cycles, cycles.0 as u64),
+    }
+}
+
+fn show_progress(far: Far, on: bool) {
+    if on {
+        let mut out = [0u8; 64];
+        let n = put(&mut out, 0, b"\r");
+        let n = put_decimal(&mut out, n, far.steps);
+        let n = put(&mut out, n, b" steps");
+        say(2, &out, n);
+    }
+}
+
+fn clear_progress(on: bool) {
+    if on {
+        io::write_all(2, b"\r                                \r");
+    }
+}
+
+// One piece of a run: a step if it is traced, else up to 65,535.
+fn piece(far: Far, mem: &mut [u8], budget: u16, trace: bool) -> Far {
+    if trace {
+        return traced(far, mem);
+    }
+    ran(far, mem, budget)
+}
+
+// As many pieces as there are steps left; `trace` is for pieces of one step.
+fn pieces(far: Far, mem: &mut [u8], count: u64, size: u16, trace: bool, progress: bool) -> Far {
+    let mut f = far;
+    let mut left = count;
+    while 0 < left {
+        if stops(f.last) {
+            return f;
+        }
+        f = piece(f, mem, size, trace);
+        show_progress(f, progress);
+        left = left - 1;
+    }
+    f
+}
+
+fn rest(steps: u64) -> u16 {
+    (steps % 65535) as u16
+}
+
+fn run_all(far: Far, mem: &mut [u8], steps: u64, trace: bool, progress: bool) -> Far {
+    if trace {
+        io::write_all(1, b"PC    bytes     AF   BC   DE   HL   SP   ZNHC  M-cycles, outcome\n");
+        return pieces(far, mem, steps, 1, true, false);
+    }
+    let f = pieces(far, mem, steps / 65535, 65535, false, progress);
+    clear_progress(progress);
+    let more = rest(steps);
+    if more == 0 {
+        return f;
+    }
+    if stops(f.last) {
+        return f;
+    }
+    ran(f, mem, more)
+}
+
+fn print_refusal(mem: &[u8], a: u16, number: u8) {
+    let mut out = [0u8; 512];
+    let b = byte(mem, a);
+    let n = put_refused(&mut out, 0, number, a, length_of(b), b, byte(mem, after(a, 1)), byte(mem, after(a, 2)));
+    say(1, &out, n);
+}
+
+fn print_outcome(last: u16) {
+    let mut out = [0u8; 128];
+    let n = put_outcome(&mut out, 0, last);
+    let n = put(&mut out, n, b"\n");
+    say(1, &out, n);
+}
+
+fn print_end(far: Far, mem: &[u8]) -> u8 {
+    let cpu = far.cpu;
+    let registers = cpu.registers;
+    let pc = registers.pc;
+    let last = far.last;
+    let refused = 16 < last;
+    if refused {
+        print_refusal(mem, pc.0, (last % 16) as u8);
+    } else {
+        print_outcome(last);
+    }
+    let mut out = [0u8; 256];
+    let n = put_totals(&mut out, 0, far.steps, far.cycles);
+    let n = put_registers(&mut out, n, registers);
+    let n = put(&mut out, n, b"\n");
+    say(1, &out, n);
+    print_flags(cpu);
+    if refused { said::REFUSED } else { said::DONE }
+}
+
+// The state beside the registers.
+fn print_flags(cpu: Cpu) {
+    if cpu.ime {
+        io::write_all(1, b"interrupts on\n");
+    } else if cpu.latch {
+        io::write_all(1, b"interrupts off, on after the next instruction\n");
+    } else {
+        io::write_all(1, b"interrupts off\n");
+    }
+}
+
+fn print_change(a: u16, before: u8, now: u8) {
+    let mut out = [0u8; 64];
+    let n = put_change(&mut out, 0, a, before, now);
+    say(1, &out, n);
+}
+
+// Answers whether the byte changed.
+fn compared(old: &[u8], mem: &[u8], a: u16) -> bool {
+    let before = byte(old, a);
+    let now = byte(mem, a);
+    if before == now {
+        return false;
+    }
+    print_change(a, before, now);
+    true
+}
+
+// Answers whether any byte changed.
+fn print_changes(old: &[u8], mem: &[u8]) -> bool {
+    let mut left: u32 = 65536;
+    let mut a: u16 = 0;
+    let mut some = false;
+    while 0 < left {
+        some = compared(old, mem, a) | some;
+        a = after(a, 1);
+        left = left - 1;
+    }
+    some
+}
+
+fn print_accesses(cycles: u64) {
+    let mut out = [0u8; 64];
+    let n = put(&mut out, 0, b"accesses to memory ");
+    let n = put_decimal(&mut out, n, cycles);
+    let n = put(&mut out, n, b"\n");
+    say(1, &out, n);
+}
+
+fn saved(line: Line, mem: &[u8], env: Env, status: u8) -> u8 {
+    let slot = line.slot_of(OUT);
+    if slot == 0 {
+        return status;
+    }
+    if file::save(slot, mem, env.tells) { status } else { said::REFUSED }
+}
+
+fn budget(line: Line) -> u64 {
+    let slot = line.slot_of(STEPS);
+    if slot == 0 { 65535 } else { slot - 1 }
+}
+
+fn stepping(line: Line, mem: &mut [u8], env: Env, far: Far) -> u8 {
+    let mut old = io::large_buffer();
+    text::page::put(&mut old, 0, mem);
+    let end = ran(far, mem, 1);
+    let status = print_end(end, mem);
+    print_accesses(end.cycles);
+    let some = print_changes(&old, mem);
+    if !some {
+        io::write_all(1, b"no byte of memory changed\n");
+    }
+    saved(line, mem, env, status)
+}
+
+pub fn machine(line: Line, mem: &mut [u8], env: Env) -> u8 {
+    let cpu = started(line);
+    let far = Far {
+        cpu: cpu,
+        last: 6,
+        steps: 0,
+        cycles: 0,
+    };
+    if line.command == STEP {
+        return stepping(line, mem, env, far);
+    }
+    let trace = line.slot_of(TRACE) != 0;
+    let end = run_all(far, mem, budget(line), trace, env.progress);
+    let status = print_end(end, mem);
+    saved(line, mem, env, status)
+}

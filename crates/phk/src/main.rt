@@ -1,0 +1,73 @@
+// The field tool: phk screen, run, step, version and help. What it says is proved in `words`, what it reads of the command line in
+// `command`; here the files are read and written and the lines are put together.
+mod file;
+mod help;
+mod machine;
+mod said;
+mod screening;
+
+use command::line::ASKS_HELP;
+use command::line::HELP;
+use command::line::Line;
+use command::line::SCREEN;
+use command::line::VERSION;
+use command::take::finish;
+use command::take::take;
+use said::Env;
+
+// The words of the command line, from one on.
+fn read_words(first: usize) -> Line {
+    let mut line = Line::new();
+    let count = os::arg_count();
+    let mut i = first;
+    while i < count {
+        line = read_word(line, i);
+        i += 1;
+    }
+    finish(line)
+}
+
+fn read_word(line: Line, i: usize) -> Line {
+    let mut word = io::buffer();
+    let n = os::arg(i, &mut word);
+    take(line, &word[..n], i)
+}
+
+fn obey(line: Line, env: Env) -> u8 {
+    let command = line.command;
+    let asks = line.slot_of(ASKS_HELP);
+    if asks != 0 {
+        help::help(command);
+        return said::DONE;
+    }
+    if command == HELP {
+        help::help(0);
+        return said::DONE;
+    }
+    if command == VERSION {
+        help::version();
+        return said::DONE;
+    }
+    let mut mem = io::large_buffer();
+    let loaded = file::load(line, &mut mem);
+    if !loaded {
+        return said::REFUSED;
+    }
+    if command == SCREEN {
+        return screening::screening(line, &mem, env);
+    }
+    machine::machine(line, &mut mem, env)
+}
+
+fn main() {
+    let env = said::told();
+    let line = read_words(env.first);
+    let wrong = line.wrong;
+    if wrong != 0 {
+        said::mistake(line);
+        said::last_word(env, said::BAD_USAGE);
+        return;
+    }
+    let status = obey(line, env);
+    said::last_word(env, status);
+}

@@ -1,0 +1,231 @@
+// phk screen: the verdict, the marks and the map.
+use crate::file::number;
+use crate::said;
+use crate::said::Env;
+use crate::said::say;
+use crate::said::within;
+use command::line::FIRST;
+use command::line::LAST;
+use command::line::Line;
+use command::line::MAP;
+use command::line::MARKS;
+use screen::screen::screen;
+use sm83::addr::Addr;
+use sm83::outcome::Verdict;
+use text::digits::put_hex4;
+use text::page::put;
+use words::lines::put_cell;
+use words::lines::put_passes;
+use words::lines::put_refused;
+use words::lines::put_refused_whole;
+use words::lines::put_start;
+use words::shape::cell_of;
+use words::shape::is_jump;
+use words::shape::length_of;
+
+// A byte of memory; addresses wrap.
+pub fn byte(mem: &[u8], a: u16) -> u8 {
+    let i = a as usize;
+    if i < mem.len() { mem[i] } else { 0 }
+}
+
+pub fn after(a: u16, by: u16) -> u16 {
+    std::num::wrapping_add_u16(a, by)
+}
+
+fn mark(marks: &[u8], i: usize) -> bool {
+    if i < marks.len() { marks[i] == 1 } else { false }
+}
+
+fn index_of(a: u16, first: u16) -> usize {
+    std::num::wrapping_sub_u16(a, first) as usize
+}
+
+struct Counts {
+    instructions: u64,
+    jumps: u64,
+}
+
+fn counted(c: Counts, mem: &[u8], marks: &[u8], first: u16, a: u16) -> Counts {
+    if !mark(marks, index_of(a, first)) {
+        return c;
+    }
+    let n = std::num::wrapping_add_u64(c.instructions, 1);
+    if is_jump(byte(mem, a)) {
+        return Counts {
+            instructions: n,
+            jumps: std::num::wrapping_add_u64(c.jumps, 1),
+        };
+    }
+    Counts {
+        instructions: n,
+        jumps: c.jumps,
+    }
+}
+
+fn count_all(mem: &[u8], marks: &[u8], first: u16, length: u16) -> Counts {
+    let mut c = Counts {
+        instructions: 0,
+        jumps: 0,
+    };
+    let mut left = length;
+    let mut a = first;
+    while 0 < left {
+        c = counted(c, mem, marks, first, a);
+        a = after(a, 1);
+        left = left - 1;
+    }
+    c
+}
+
+fn print_start(mem: &[u8], marks: &[u8], first: u16, a: u16) {
+    if mark(marks, index_of(a, first)) {
+        let mut out = [0u8; 64];
+        let b = byte(mem, a);
+        let n = put_start(&mut out, 0, a, length_of(b), b, byte(mem, after(a, 1)), byte(mem, after(a, 2)));
+        let n = put(&mut out, n, b"\n");
+        say(1, &out, n);
+    }
+}
+
+fn print_starts(mem: &[u8], marks: &[u8], first: u16, length: u16) {
+    let mut left = length;
+    let mut a = first;
+    while 0 < left {
+        print_start(mem, marks, first, a);
+        a = after(a, 1);
+        left = left - 1;
+    }
+}
+
+// What the map knows at a byte: the operand bytes still to come, and whether the walk has ended.
+struct Walk {
+    left: u8,
+    ended: bool,
+}
+
+// One byte of the map. `bad` is the refused address, if `found`; the walk ends there for refusals 7 and 8.
+fn map_byte(mem: &[u8], a: u16, bad: u16, found: bool, ends: bool, colour: bool, walk: Walk) -> Walk {
+    let mut out = [0u8; 64];
+    if walk.ended {
+        let n = put_cell(&mut out, 0, 0, colour);
+        say(1, &out, n);
+        return walk;
+    }
+    let cell = cell_of(walk.left, byte(mem, a));
+    let here = found & (a == bad);
+    if here {
+        let n = put_cell(&mut out, 0, 4, colour);
+        say(1, &out, n);
+    } else {
+        let n = put_cell(&mut out, 0, cell.kind, colour);
+        say(1, &out, n);
+    }
+    Walk {
+        left: cell.left,
+        ended: here & ends,
+    }
+}
+
+fn row_start(a: u16) {
+    let mut out = [0u8; 64];
+    let n = put_hex4(&mut out, 0, a);
+    let n = put(&mut out, n, b"  ");
+    say(1, &out, n);
+}
+
+fn row_end(more: bool) {
+    if more {
+        io::write_all(1, b"\n");
+    }
+}
+
+fn print_map(mem: &[u8], first: u16, length: u16, bad: u16, found: bool, ends: bool, colour: bool) {
+    let mut walk = Walk {
+        left: 0,
+        ended: false,
+    };
+    let mut left = length;
+    let mut a = first;
+    let mut column: u8 = 0;
+    while 0 < left {
+        if column == 0 {
+            row_start(a);
+        }
+        walk = map_byte(mem, a, bad, found, ends, colour, walk);
+        a = after(a, 1);
+        left = left - 1;
+        column = (column % 32 + 1) % 32;
+        row_end(column == 0);
+    }
+    row_end(column != 0);
+}
+
+fn legend() {
+    io::write_all(1, b"I instruction start   . operand byte   J jump   X refused here   - not reached\n");
+}
+
+fn print_passes(line: Line, mem: &[u8], marks: &[u8], first: u16, last: u16, length: u16) {
+    let mut out = [0u8; 128];
+    let c = count_all(mem, marks, first, length);
+    let n = put_passes(&mut out, 0, first, last, c.instructions, c.jumps);
+    say(1, &out, n);
+    if line.slot_of(MARKS) != 0 {
+        print_starts(mem, marks, first, length);
+    }
+}
+
+fn print_refused(mem: &[u8], number: u8, a: u16) {
+    let mut out = [0u8; 512];
+    let b = byte(mem, a);
+    let n = put_refused(&mut out, 0, number, a, length_of(b), b, byte(mem, after(a, 1)), byte(mem, after(a, 2)));
+    say(1, &out, n);
+}
+
+fn print_refused_whole(number: u8) {
+    let mut out = [0u8; 512];
+    let n = put_refused_whole(&mut out, 0, number);
+    say(1, &out, n);
+}
+
+fn judged(line: Line, mem: &[u8], marks: &mut [u8], first: u16, last: u16, length: u16, colour: bool) -> u8 {
+    let verdict = screen(mem, Addr(first), Addr(last), marks);
+    let map = line.slot_of(MAP) != 0;
+    let number = verdict.number();
+    match verdict {
+        Verdict::Passes => {
+            print_passes(line, mem, marks, first, last, length);
+            if map {
+                print_map(mem, first, length, 0, false, false, colour);
+                legend();
+            }
+            said::DONE
+        }
+        Verdict::Refused(_) => {
+            print_refused_whole(number);
+            said::REFUSED
+        }
+        Verdict::RefusedAt(_, at) => {
+            print_refused(mem, number, at.0);
+            if map {
+                print_map(mem, first, length, at.0, true, number < 9, colour);
+                legend();
+            }
+            said::REFUSED
+        }
+    }
+}
+
+pub fn screening(line: Line, mem: &[u8], env: Env) -> u8 {
+    let first = number(line.slot_of(FIRST));
+    let last = number(line.slot_of(LAST));
+    let span = std::num::wrapping_sub_u16(last, first);
+    if 4095 < span {
+        print_refused_whole(5);
+        return said::REFUSED;
+    }
+    let length = span + 1;
+    let mut marks = io::buffer();
+    let n = within(&marks, length as usize);
+    judged(line, mem, &mut marks[..n], first, last, length, env.colour)
+}

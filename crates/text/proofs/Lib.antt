@@ -1,0 +1,5 @@
+-- What is proved of text.
+pub mod Written
+pub mod Decimal
+pub mod Words
+pub mod ByteRead

@@ -1,0 +1,5 @@
+-- What the contracts of `text` cite.
+pub mod Page
+pub mod Digits
+pub mod Word
+pub mod Number

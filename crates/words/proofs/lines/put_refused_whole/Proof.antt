@@ -1,0 +1,29 @@
+-- One text after the other.
+use Rattle.text.proofs.Written.{_⨾_}
+use native.Mathlib.Omega.{arith}
+use borrow.Author.Needs.{needs}
+use Rattle.words.specs.Lines.{noAddressText}
+use Rattle.words.proofs.lines.put_refused_whole.Statement.{statement}
+use Rattle.words.proofs.lines.put_refused_whole.Tie as tie
+
+same-length : tie.Need-same-length
+same-length c =
+    let p5 = c .before .before in
+    let p4 = p5 .before .before .before .before .before in
+    let p3 = p4 .before .before .before .before in
+    let p2 = p3 .before .before .before .before .before in
+    let p1 = p2 .before .before .before .before in
+    omega (arith, p5 .put3 .kept .0, p4 .put-rule .kept .0, p3 .put2 .kept .0, p2 .put-decimal .kept .0, p1 .put .kept .0)
+
+returns : tie.Need-returns
+unfolding noAddressText
+returns c =
+    let p5 = c .before .before in
+    let p4 = p5 .before .before .before .before .before in
+    let p3 = p4 .before .before .before .before in
+    let p2 = p3 .before .before .before .before .before in
+    let p1 = p2 .before .before .before .before in
+    p1 .put .ensures ⨾ p2 .put-decimal .ensures ⨾ p3 .put2 .ensures ⨾ p4 .put-rule .ensures ⨾ p5 .put3 .ensures
+
+pub put-refused-whole-spec : {M : Type 1} → statement M
+put-refused-whole-spec = tie.close (tie.spec (λ c. search needs) (λ c κs. search needs) (λ c κs. search needs) (λ c. search needs) (λ c κs. search needs) (λ c κs. search needs) (λ c. search needs) (λ c κs. search needs) same-length returns)

@@ -1,0 +1,6 @@
+-- What the tool says.
+pub mod Sentence
+pub mod Mistake
+pub mod Registers
+pub mod Lines
+pub mod Cells

@@ -1,0 +1,6 @@
+// What the tool says: sentences chosen by number, and lines of numbers, written to a lent slice.
+pub mod lines;
+pub mod mistake;
+pub mod registers;
+pub mod sentence;
+pub mod shape;
