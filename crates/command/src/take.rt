@@ -115,7 +115,11 @@ fn number_mistake(wrong: u8) -> u8
     ensures { λ r. ⌜ r ≡ numberMistake wrong ⌝ }
 {
     let known = wrong < 7;
-    if known { BAD_NUMBER + wrong } else { BAD_NUMBER }
+    if known {
+        BAD_NUMBER + wrong
+    } else {
+        BAD_NUMBER
+    }
 }
 
 // As a slot keeps a number: 0 is for nothing.

@@ -41,7 +41,11 @@ fn too_short(path: &[u8], length: usize) {
     let at = put_image(&mut out, path);
     let at = put(&mut out, at, b": ");
     let at = put_decimal(&mut out, at, length_of(length));
-    let at = put(&mut out, at, b" bytes, expected 65536; say with --at ADDRESS where a part of memory lies\n");
+    let at = put(
+        &mut out,
+        at,
+        b" bytes, expected 65536; say with --at ADDRESS where a part of memory lies\n",
+    );
     say(2, &out, at);
 }
 
@@ -130,7 +134,11 @@ fn cannot_write(path: &[u8]) -> bool {
     let mut out = io::large_buffer();
     let at = put(&mut out, 0, b"phk: --out '");
     let at = put(&mut out, at, path);
-    let at = put(&mut out, at, b"', expected a name in a folder that can be written to");
+    let at = put(
+        &mut out,
+        at,
+        b"', expected a name in a folder that can be written to",
+    );
     let n = within(&out, at);
     os::fail(&out[..n]);
     false

@@ -100,7 +100,15 @@ fn traced(far: Far, mem: &mut [u8]) -> Far {
     let a = pc.0;
     let b = byte(mem, a);
     let mut out = [0u8; 128];
-    let n = put_start(&mut out, 0, a, length_of(b), b, byte(mem, after(a, 1)), byte(mem, after(a, 2)));
+    let n = put_start(
+        &mut out,
+        0,
+        a,
+        length_of(b),
+        b,
+        byte(mem, after(a, 1)),
+        byte(mem, after(a, 2)),
+    );
     let n = put(&mut out, n, b" ");
     let x = step(cpu, mem);
     let cycles = x.cycles;
@@ -175,7 +183,10 @@ fn rest(steps: u64) -> u16 {
 
 fn run_all(far: Far, mem: &mut [u8], steps: u64, trace: bool, progress: bool) -> Far {
     if trace {
-        io::write_all(1, b"PC    bytes     AF   BC   DE   HL   SP   ZNHC  M-cycles, outcome\n");
+        io::write_all(
+            1,
+            b"PC    bytes     AF   BC   DE   HL   SP   ZNHC  M-cycles, outcome\n",
+        );
         return pieces(far, mem, steps, 1, true, false);
     }
     let f = pieces(far, mem, steps / 65535, 65535, false, progress);
@@ -193,7 +204,16 @@ fn run_all(far: Far, mem: &mut [u8], steps: u64, trace: bool, progress: bool) ->
 fn print_refusal(mem: &[u8], a: u16, number: u8) {
     let mut out = [0u8; 512];
     let b = byte(mem, a);
-    let n = put_refused(&mut out, 0, number, a, length_of(b), b, byte(mem, after(a, 1)), byte(mem, after(a, 2)));
+    let n = put_refused(
+        &mut out,
+        0,
+        number,
+        a,
+        length_of(b),
+        b,
+        byte(mem, after(a, 1)),
+        byte(mem, after(a, 2)),
+    );
     say(1, &out, n);
 }
 
@@ -278,7 +298,11 @@ fn saved(line: Line, mem: &[u8], env: Env, status: u8) -> u8 {
     if slot == 0 {
         return status;
     }
-    if file::save(slot, mem, env.tells) { status } else { said::REFUSED }
+    if file::save(slot, mem, env.tells) {
+        status
+    } else {
+        said::REFUSED
+    }
 }
 
 fn budget(line: Line) -> u64 {

@@ -88,11 +88,11 @@ pub fn mistake(line: Line) {
     mistake_in(&word, n, line.slot, wrong);
 }
 
-// Mistakes 1, 2, 3 and 7 are about no slot.
+// Mistakes 1 to 5 and 7 are about the word itself, the others about what it stands for.
 fn mistake_in(word: &[u8], n: usize, slot: u8, wrong: u8) {
     let mut out = io::buffer();
     let mut named = true;
-    if wrong < 4 {
+    if wrong < 6 {
         named = false;
     }
     if wrong == 7 {

@@ -34,7 +34,11 @@ pub fn after(a: u16, by: u16) -> u16 {
 }
 
 fn mark(marks: &[u8], i: usize) -> bool {
-    if i < marks.len() { marks[i] == 1 } else { false }
+    if i < marks.len() {
+        marks[i] == 1
+    } else {
+        false
+    }
 }
 
 fn index_of(a: u16, first: u16) -> usize {
@@ -82,7 +86,15 @@ fn print_start(mem: &[u8], marks: &[u8], first: u16, a: u16) {
     if mark(marks, index_of(a, first)) {
         let mut out = [0u8; 64];
         let b = byte(mem, a);
-        let n = put_start(&mut out, 0, a, length_of(b), b, byte(mem, after(a, 1)), byte(mem, after(a, 2)));
+        let n = put_start(
+            &mut out,
+            0,
+            a,
+            length_of(b),
+            b,
+            byte(mem, after(a, 1)),
+            byte(mem, after(a, 2)),
+        );
         let n = put(&mut out, n, b"\n");
         say(1, &out, n);
     }
@@ -105,7 +117,15 @@ struct Walk {
 }
 
 // One byte of the map. `bad` is the refused address, if `found`; the walk ends there for refusals 7 and 8.
-fn map_byte(mem: &[u8], a: u16, bad: u16, found: bool, ends: bool, colour: bool, walk: Walk) -> Walk {
+fn map_byte(
+    mem: &[u8],
+    a: u16,
+    bad: u16,
+    found: bool,
+    ends: bool,
+    colour: bool,
+    walk: Walk,
+) -> Walk {
     let mut out = [0u8; 64];
     if walk.ended {
         let n = put_cell(&mut out, 0, 0, colour);
@@ -162,7 +182,10 @@ fn print_map(mem: &[u8], first: u16, length: u16, bad: u16, found: bool, ends: b
 }
 
 fn legend() {
-    io::write_all(1, b"I instruction start   . operand byte   J jump   X refused here   - not reached\n");
+    io::write_all(
+        1,
+        b"I instruction start   . operand byte   J jump   X refused here   - not reached\n",
+    );
 }
 
 fn print_passes(line: Line, mem: &[u8], marks: &[u8], first: u16, last: u16, length: u16) {
@@ -178,7 +201,16 @@ fn print_passes(line: Line, mem: &[u8], marks: &[u8], first: u16, last: u16, len
 fn print_refused(mem: &[u8], number: u8, a: u16) {
     let mut out = [0u8; 512];
     let b = byte(mem, a);
-    let n = put_refused(&mut out, 0, number, a, length_of(b), b, byte(mem, after(a, 1)), byte(mem, after(a, 2)));
+    let n = put_refused(
+        &mut out,
+        0,
+        number,
+        a,
+        length_of(b),
+        b,
+        byte(mem, after(a, 1)),
+        byte(mem, after(a, 2)),
+    );
     say(1, &out, n);
 }
 
@@ -188,7 +220,15 @@ fn print_refused_whole(number: u8) {
     say(1, &out, n);
 }
 
-fn judged(line: Line, mem: &[u8], marks: &mut [u8], first: u16, last: u16, length: u16, colour: bool) -> u8 {
+fn judged(
+    line: Line,
+    mem: &[u8],
+    marks: &mut [u8],
+    first: u16,
+    last: u16,
+    length: u16,
+    colour: bool,
+) -> u8 {
     let verdict = screen(mem, Addr(first), Addr(last), marks);
     let map = line.slot_of(MAP) != 0;
     let number = verdict.number();

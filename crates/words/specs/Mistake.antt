@@ -25,12 +25,12 @@ slotText n =
 unfoldable pub mistakeText : ℕ → List ℕ
 mistakeText n =
     when (eqb n 1) (ascii "no command was given; expected screen, run, step, version or help")
-    ++ when (eqb n 2) (ascii "no such command; expected screen, run, step, version or help")
-    ++ when (eqb n 3) (ascii "no such option; phk screen --help, phk run --help and phk step --help list them")
-    ++ when (eqb n 4) (ascii "this command has no such option; --help after the command lists those that it has")
-    ++ when (eqb n 5) (ascii "this option was given twice; give it once")
+    ++ when (eqb n 2) (ascii "is no command; expected screen, run, step, version or help")
+    ++ when (eqb n 3) (ascii "is no option; phk screen --help, phk run --help and phk step --help list them")
+    ++ when (eqb n 4) (ascii "is no option of this command; --help after the command lists those that it has")
+    ++ when (eqb n 5) (ascii "was given twice; give it once")
     ++ when (eqb n 6) (ascii "its value is missing; expected one more word")
-    ++ when (eqb n 7) (ascii "one word too many; --help after the command shows which it takes")
+    ++ when (eqb n 7) (ascii "is one word too many; --help after the command shows which it takes")
     ++ when (eqb n 8) (ascii "it is missing; --help after the command shows where it stands")
     ++ when (eqb n 9) (ascii "no such state; expected dmg, cgb, cgb-dmg or zero")
     ++ when (eqb n 10) (ascii "the window is the wrong way round (refusal 4); expected FIRST not above LAST")

@@ -18,7 +18,15 @@ use text::page::put_byte;
 use text::page::put_when;
 
 // An instruction start and its bytes.
-pub fn put_start(out: &mut [u8], at: usize, address: u16, length: u8, b0: u8, b1: u8, b2: u8) -> usize
+pub fn put_start(
+    out: &mut [u8],
+    at: usize,
+    address: u16,
+    length: u8,
+    b0: u8,
+    b1: u8,
+    b2: u8,
+) -> usize
     ensures { λ r. ⌜ Wrote (page at (now (out .entry))) (startText address length b0 b1 b2) (page r (now (out .exit))) ⌝ }
 {
     let at = put_hex4(out, at, address);
@@ -41,7 +49,14 @@ pub fn put_step(out: &mut [u8], at: usize, before: CpuRegisters, cycles: u64, ou
 }
 
 // A window that passes.
-pub fn put_passes(out: &mut [u8], at: usize, first: u16, last: u16, instructions: u64, jumps: u64) -> usize
+pub fn put_passes(
+    out: &mut [u8],
+    at: usize,
+    first: u16,
+    last: u16,
+    instructions: u64,
+    jumps: u64,
+) -> usize
     ensures { λ r. ⌜ Wrote (page at (now (out .entry))) (passesText first last instructions jumps) (page r (now (out .exit))) ⌝ }
 {
     let at = put(out, at, b"passes: ");
@@ -56,7 +71,16 @@ pub fn put_passes(out: &mut [u8], at: usize, first: u16, last: u16, instructions
 }
 
 // A refusal that names an address, and the bytes there.
-pub fn put_refused(out: &mut [u8], at: usize, number: u8, address: u16, length: u8, b0: u8, b1: u8, b2: u8) -> usize
+pub fn put_refused(
+    out: &mut [u8],
+    at: usize,
+    number: u8,
+    address: u16,
+    length: u8,
+    b0: u8,
+    b1: u8,
+    b2: u8,
+) -> usize
     ensures { λ r. ⌜ Wrote (page at (now (out .entry))) (refusedText number address length b0 b1 b2) (page r (now (out .exit))) ⌝ }
 {
     let at = put(out, at, b"refused ");
@@ -131,7 +155,14 @@ fn put_quoted(out: &mut [u8], at: usize, word: &[u8]) -> usize
 }
 
 // A mistake in the command line: what the word stands for, if that is known, the word, and what was expected.
-pub fn put_mistake_line(out: &mut [u8], at: usize, named: bool, slot: u8, word: &[u8], wrong: u8) -> usize
+pub fn put_mistake_line(
+    out: &mut [u8],
+    at: usize,
+    named: bool,
+    slot: u8,
+    word: &[u8],
+    wrong: u8,
+) -> usize
     ensures { λ r. ⌜ Wrote (page at (now (out .entry))) (mistakeLine named slot (now (word .entry)) wrong) (page r (now (out .exit))) ⌝ }
 {
     if named {

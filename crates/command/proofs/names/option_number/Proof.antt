@@ -1,4 +1,4 @@
--- TODO
+-- One word of the table after the other.
 use Rattle.command.specs.Names.{optionNumber}
 use borrow.Author.Needs.{needs}
 use Rattle.command.proofs.names.option_number.Statement.{statement}

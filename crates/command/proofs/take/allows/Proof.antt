@@ -1,4 +1,4 @@
--- TODO
+-- Each way through the tests, by what they found.
 use Rattle.command.specs.Take.{allows}
 use Rattle.command.proofs.take.allows.Statement.{statement}
 use Rattle.command.proofs.take.allows.Tie as tie

@@ -1,4 +1,4 @@
--- TODO
+-- Each way through the tests, by what they found.
 use borrow.Author.Needs.{needs}
 use Rattle.text.proofs.digits.glyph.Statement.{statement}
 use Rattle.text.proofs.digits.glyph.Tie as tie

@@ -27,8 +27,7 @@ loop-again : tie.Need-loop-again Inv-loop μ-loop
 loop-again c =
     let put = c .before .before .put-digit in
     let turn = c .before .before .before .before in
-    let at = turn .before .loop in
-    (
+    let at = turn .before .loop in (
       put .kept .0 ∙ at .inv .0,
       omega arith,
       next-scale (at .places) (turn .loop-test .taken) (at .inv .2),

@@ -1,4 +1,4 @@
--- TODO
+-- Each way through, by the text that it writes.
 use Rattle.text.proofs.Written.{nothing}
 use Rattle.text.specs.Digits.{digitAt}
 use borrow.Author.Needs.{needs}

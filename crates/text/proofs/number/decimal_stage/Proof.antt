@@ -1,4 +1,4 @@
--- TODO
+-- Each way through the tests, by what they found.
 use Rattle.text.specs.Number.{decimalStage}
 use Rattle.text.proofs.number.decimal_stage.Statement.{statement}
 use Rattle.text.proofs.number.decimal_stage.Tie as tie

@@ -1,4 +1,4 @@
--- TODO
+-- Each way through the tests, by what they found.
 use Rattle.text.specs.Number.{ended}
 use borrow.Author.Needs.{needs}
 use Rattle.text.proofs.number.ended.Statement.{statement}

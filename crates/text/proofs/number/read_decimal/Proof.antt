@@ -1,4 +1,4 @@
--- TODO
+-- Each way through the tests, by what they found.
 use Rattle.text.specs.Number.{readDecimal}
 use borrow.Author.Needs.{needs}
 use Rattle.text.proofs.number.read_decimal.Statement.{statement}

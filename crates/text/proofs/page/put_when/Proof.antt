@@ -1,4 +1,4 @@
--- TODO
+-- Each way through, by the text that it writes.
 use Rattle.text.proofs.Written.{nothing}
 use borrow.Author.Needs.{needs}
 use Rattle.text.proofs.page.put_when.Statement.{statement}

@@ -1,4 +1,4 @@
--- TODO
+-- Each way through the tests, by what they found.
 use borrow.Author.Needs.{needs}
 use Rattle.text.proofs.word.pick.Statement.{statement}
 use Rattle.text.proofs.word.pick.Tie as tie

@@ -1,4 +1,4 @@
--- TODO
+-- Each way through the tests, by what they found.
 use Rattle.words.specs.Cells.{cellOf}
 use borrow.Author.Needs.{needs}
 use Rattle.words.proofs.shape.cell_of.Statement.{statement}

@@ -1,4 +1,4 @@
--- TODO
+-- Read off the shape of the opcode.
 use Rattle.words.specs.Cells.{isJump}
 use borrow.Author.Needs.{needs}
 use Rattle.words.proofs.shape.is_jump.Statement.{statement}

@@ -1,4 +1,4 @@
--- TODO
+-- Read off the shape of the opcode.
 use borrow.Author.Needs.{needs}
 use Rattle.words.proofs.shape.length_of.Statement.{statement}
 use Rattle.words.proofs.shape.length_of.Tie as tie

@@ -1,4 +1,4 @@
--- TODO
+-- Each way through the tests, by what they found.
 use borrow.Author.Needs.{needs}
 use Rattle.command.proofs.line.Line.slot_of.Statement.{statement}
 use Rattle.command.proofs.line.Line.slot_of.Tie as tie

@@ -1,4 +1,4 @@
--- TODO
+-- Each way through the tests, by what they found.
 use Rattle.command.specs.Line.{stored}
 use borrow.Author.Needs.{needs}
 use Rattle.command.proofs.line.Line.stored.Statement.{statement}
