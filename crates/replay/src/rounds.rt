@@ -67,11 +67,11 @@ fn say_rest(at: usize) {
 
 // Records are numbered from 1, as `oracle/sample --show` numbers them.
 fn say_differs(before: usize, at: usize) {
-    say(b"after record ", before);
+    say(b"record ", std::num::wrapping_add_usize(before, 1));
     say(b", at byte ", at);
     io::write_all(
         STDOUT_FILENO,
-        b": the next record DIFFERS; see it with oracle/sample --show\n",
+        b", DIFFERS: see it with oracle/sample --show\n",
     );
 }
 
