@@ -24,6 +24,7 @@ use sm83::registers::CpuRegisters;
 use sm83::state::Cpu;
 use text::digits::put_decimal;
 use text::page::put;
+use text::page::put_when;
 use words::lines::put_change;
 use words::lines::put_refused;
 use words::lines::put_start;
@@ -100,15 +101,18 @@ fn traced(far: Far, mem: &mut [u8]) -> Far {
     let a = pc.0;
     let b = byte(mem, a);
     let mut out = [0u8; 128];
+    let length = length_of(b);
     let n = put_start(
         &mut out,
         0,
         a,
-        length_of(b),
+        length,
         b,
         byte(mem, after(a, 1)),
         byte(mem, after(a, 2)),
     );
+    let n = put_when(&mut out, n, length < 2, b"   ");
+    let n = put_when(&mut out, n, length < 3, b"   ");
     let n = put(&mut out, n, b" ");
     let x = step(cpu, mem);
     let cycles = x.cycles;

@@ -5,7 +5,7 @@ use Prim.Native.Nat.{ℕ, _/_, _%_}
 use lib.Dec.{eqb, ltb}
 use Rattle.sm83.specs.declared.registers.CpuRegisters.{CpuRegisters}
 use Rattle.sm83.specs.State.{pairAF, pairBC, pairDE, pairHL}
-use Rattle.text.specs.Page.{choose, ascii}
+use Rattle.text.specs.Page.{choose, when, ascii}
 use Rattle.text.specs.Digits.{hex2, hex4}
 
 -- a flag's letter, or -
@@ -40,8 +40,8 @@ registersText r =
     ++ flagsText (r .f)
 
 abbrev pub moreText : Bool → ℕ → List ℕ
-moreText on b = choose on ((32 ∷ []) ++ hex2 b) (ascii "   ")
+moreText on b = when on ((32 ∷ []) ++ hex2 b)
 
--- always eight places wide
+-- the bytes of an instruction of one to three bytes
 unfoldable pub bytesText : ℕ → ℕ → ℕ → ℕ → List ℕ
 bytesText length b0 b1 b2 = hex2 b0 ++ moreText (ltb 1 length) b1 ++ moreText (ltb 2 length) b2

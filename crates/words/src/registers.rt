@@ -64,7 +64,7 @@ pub fn put_registers(out: &mut [u8], at: usize, registers: CpuRegisters) -> usiz
     put_flags(out, at, registers.f)
 }
 
-// A space and a byte, or as many spaces.
+// A space and a byte, or nothing.
 fn put_more(out: &mut [u8], at: usize, on: bool, b: u8) -> usize
     ensures { λ r. ⌜ Wrote (page at (now (out .entry))) (moreText on b) (page r (now (out .exit))) ⌝ }
 {
@@ -72,10 +72,10 @@ fn put_more(out: &mut [u8], at: usize, on: bool, b: u8) -> usize
         let at = put_byte(out, at, 32);
         return put_hex2(out, at, b);
     }
-    put(out, at, b"   ")
+    at
 }
 
-// The bytes of an instruction of one to three bytes, always eight places wide.
+// The bytes of an instruction of one to three bytes.
 pub fn put_bytes(out: &mut [u8], at: usize, length: u8, b0: u8, b1: u8, b2: u8) -> usize
     ensures { λ r. ⌜ Wrote (page at (now (out .entry))) (bytesText length b0 b1 b2) (page r (now (out .exit))) ⌝ }
 {

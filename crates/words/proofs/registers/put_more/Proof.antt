@@ -1,5 +1,5 @@
 -- One text after the other.
-use Rattle.text.proofs.Written.{_⨾_}
+use Rattle.text.proofs.Written.{_⨾_, nothing}
 use borrow.Author.Needs.{needs}
 use Rattle.words.proofs.registers.put_more.Statement.{statement}
 use Rattle.words.proofs.registers.put_more.Tie as tie
@@ -11,7 +11,7 @@ returns c =
     simp (c .before .before .before .before .before .before .before .before .if1 .taken) (p1 .put-byte .ensures ⨾ p2 .put-hex2 .ensures)
 
 returns-2 : tie.Need-returns-2
-returns-2 c = simp (c .before .before .before .before .before .if1 .left) (c .before .before .put .ensures)
+returns-2 c = simp (c .if1 .left) (nothing)
 
 pub put-more-spec : {M : Type 1} → statement M
-put-more-spec = tie.close (tie.spec (λ c κs. search needs) (λ c κs. search needs) (λ c. search needs) returns (λ c. search needs) (λ c κs. search needs) (λ c. search needs) returns-2)
+put-more-spec = tie.close (tie.spec (λ c κs. search needs) (λ c κs. search needs) (λ c. search needs) returns returns-2)
