@@ -4,9 +4,12 @@ use crate::said::within;
 use command::line::AT;
 use command::line::IMAGE;
 use command::line::Line;
-use text::digits::put_decimal;
-use text::digits::put_hex4;
 use text::page::put;
+use words::files::put_part;
+use words::files::put_too_long;
+use words::files::put_too_short;
+use words::files::put_unreadable;
+use words::files::put_unwritable;
 
 // A slot's number; the slot holds one more.
 pub fn number(slot: u64) -> u16 {
@@ -21,51 +24,28 @@ fn length_of(n: usize) -> u64 {
     n as u64
 }
 
-// "phk: IMAGE 'the path'"
-fn put_image(out: &mut [u8], path: &[u8]) -> usize {
-    let at = put(out, 0, b"phk: IMAGE '");
-    let at = put(out, at, path);
-    put(out, at, b"'")
-}
-
 fn cannot_read(path: &[u8]) {
     let mut out = io::large_buffer();
-    let at = put_image(&mut out, path);
-    let at = put(&mut out, at, b", expected a file that can be read");
+    let at = put_unreadable(&mut out, 0, path);
     let n = within(&out, at);
     os::fail(&out[..n]);
 }
 
 fn too_short(path: &[u8], length: usize) {
     let mut out = io::large_buffer();
-    let at = put_image(&mut out, path);
-    let at = put(&mut out, at, b": ");
-    let at = put_decimal(&mut out, at, length_of(length));
-    let at = put(
-        &mut out,
-        at,
-        b" bytes, expected 65536; say with --at ADDRESS where a part of memory lies\n",
-    );
+    let at = put_too_short(&mut out, 0, path, length_of(length));
     say(2, &out, at);
 }
 
 fn too_long(path: &[u8], room: usize) {
     let mut out = io::large_buffer();
-    let at = put_image(&mut out, path);
-    let at = put(&mut out, at, b": too long, expected at most ");
-    let at = put_decimal(&mut out, at, length_of(room));
-    let at = put(&mut out, at, b" bytes up to address FFFF\n");
+    let at = put_too_long(&mut out, 0, path, length_of(room));
     say(2, &out, at);
 }
 
 fn partly(path: &[u8], from: u16, length: usize) {
     let mut out = io::large_buffer();
-    let at = put_image(&mut out, path);
-    let at = put(&mut out, at, b": ");
-    let at = put_decimal(&mut out, at, length_of(length));
-    let at = put(&mut out, at, b" bytes at ");
-    let at = put_hex4(&mut out, at, from);
-    let at = put(&mut out, at, b"; every other byte of memory is 0\n");
+    let at = put_part(&mut out, 0, path, length_of(length), from);
     say(2, &out, at);
 }
 
@@ -132,13 +112,7 @@ pub fn load(line: Line, mem: &mut [u8]) -> bool {
 
 fn cannot_write(path: &[u8]) -> bool {
     let mut out = io::large_buffer();
-    let at = put(&mut out, 0, b"phk: --out '");
-    let at = put(&mut out, at, path);
-    let at = put(
-        &mut out,
-        at,
-        b"', expected a name in a folder that can be written to",
-    );
+    let at = put_unwritable(&mut out, 0, path);
     let n = within(&out, at);
     os::fail(&out[..n]);
     false

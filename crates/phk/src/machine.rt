@@ -22,17 +22,14 @@ use run::step;
 use sm83::addr::Addr;
 use sm83::registers::CpuRegisters;
 use sm83::state::Cpu;
-use text::digits::put_decimal;
-use text::page::put;
-use text::page::put_when;
 use words::lines::put_change;
 use words::lines::put_refused;
-use words::lines::put_start;
-use words::lines::put_step;
-use words::lines::put_totals;
-use words::registers::put_registers;
-use words::sentence::put_outcome;
 use words::shape::length_of;
+use words::steps::put_accesses;
+use words::steps::put_ended;
+use words::steps::put_progress;
+use words::steps::put_report;
+use words::steps::put_traced;
 
 // How far a run has come.
 struct Far {
@@ -100,25 +97,25 @@ fn traced(far: Far, mem: &mut [u8]) -> Far {
     let pc = before.pc;
     let a = pc.0;
     let b = byte(mem, a);
-    let mut out = [0u8; 128];
-    let length = length_of(b);
-    let n = put_start(
-        &mut out,
-        0,
-        a,
-        length,
-        b,
-        byte(mem, after(a, 1)),
-        byte(mem, after(a, 2)),
-    );
-    let n = put_when(&mut out, n, length < 2, b"   ");
-    let n = put_when(&mut out, n, length < 3, b"   ");
-    let n = put(&mut out, n, b" ");
+    let b1 = byte(mem, after(a, 1));
+    let b2 = byte(mem, after(a, 2));
     let x = step(cpu, mem);
     let cycles = x.cycles;
     let outcome = x.outcome;
     let last = outcome.number();
-    let n = put_step(&mut out, n, before, cycles.0 as u64, last);
+    let mut out = [0u8; 128];
+    let n = put_traced(
+        &mut out,
+        0,
+        a,
+        length_of(b),
+        b,
+        b1,
+        b2,
+        before,
+        cycles.0 as u64,
+        last,
+    );
     say(1, &out, n);
     let next = x.cpu;
     Far {
@@ -145,9 +142,7 @@ fn ran(far: Far, mem: &mut [u8], budget: u16) -> Far {
 fn show_progress(far: Far, on: bool) {
     if on {
         let mut out = [0u8; 64];
-        let n = put(&mut out, 0, b"\r");
-        let n = put_decimal(&mut out, n, far.steps);
-        let n = put(&mut out, n, b" steps");
+        let n = put_progress(&mut out, 0, far.steps);
         say(2, &out, n);
     }
 }
@@ -223,8 +218,7 @@ fn print_refusal(mem: &[u8], a: u16, number: u8) {
 
 fn print_outcome(last: u16) {
     let mut out = [0u8; 128];
-    let n = put_outcome(&mut out, 0, last);
-    let n = put(&mut out, n, b"\n");
+    let n = put_ended(&mut out, 0, last);
     say(1, &out, n);
 }
 
@@ -240,9 +234,7 @@ fn print_end(far: Far, mem: &[u8]) -> u8 {
         print_outcome(last);
     }
     let mut out = [0u8; 256];
-    let n = put_totals(&mut out, 0, far.steps, far.cycles);
-    let n = put_registers(&mut out, n, registers);
-    let n = put(&mut out, n, b"\n");
+    let n = put_report(&mut out, 0, far.steps, far.cycles, registers);
     say(1, &out, n);
     print_flags(cpu);
     if refused { said::REFUSED } else { said::DONE }
@@ -291,9 +283,7 @@ fn print_changes(old: &[u8], mem: &[u8]) -> bool {
 
 fn print_accesses(cycles: u64) {
     let mut out = [0u8; 64];
-    let n = put(&mut out, 0, b"accesses to memory ");
-    let n = put_decimal(&mut out, n, cycles);
-    let n = put(&mut out, n, b"\n");
+    let n = put_accesses(&mut out, 0, cycles);
     say(1, &out, n);
 }
 

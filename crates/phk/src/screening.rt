@@ -12,16 +12,15 @@ use command::line::MARKS;
 use screen::screen::screen;
 use sm83::addr::Addr;
 use sm83::outcome::Verdict;
-use text::digits::put_hex4;
-use text::page::put;
 use words::lines::put_cell;
 use words::lines::put_passes;
 use words::lines::put_refused;
 use words::lines::put_refused_whole;
-use words::lines::put_start;
 use words::shape::cell_of;
 use words::shape::is_jump;
 use words::shape::length_of;
+use words::steps::put_marked;
+use words::steps::put_row;
 
 // A byte of memory; addresses wrap.
 pub fn byte(mem: &[u8], a: u16) -> u8 {
@@ -86,7 +85,7 @@ fn print_start(mem: &[u8], marks: &[u8], first: u16, a: u16) {
     if mark(marks, index_of(a, first)) {
         let mut out = [0u8; 64];
         let b = byte(mem, a);
-        let n = put_start(
+        let n = put_marked(
             &mut out,
             0,
             a,
@@ -95,7 +94,6 @@ fn print_start(mem: &[u8], marks: &[u8], first: u16, a: u16) {
             byte(mem, after(a, 1)),
             byte(mem, after(a, 2)),
         );
-        let n = put(&mut out, n, b"\n");
         say(1, &out, n);
     }
 }
@@ -149,8 +147,7 @@ fn map_byte(
 
 fn row_start(a: u16) {
     let mut out = [0u8; 64];
-    let n = put_hex4(&mut out, 0, a);
-    let n = put(&mut out, n, b"  ");
+    let n = put_row(&mut out, 0, a);
     say(1, &out, n);
 }
 

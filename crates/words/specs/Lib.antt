@@ -4,3 +4,5 @@ pub mod Mistake
 pub mod Registers
 pub mod Lines
 pub mod Cells
+pub mod Files
+pub mod Steps

@@ -1,0 +1,23 @@
+-- One text after the other.
+use Rattle.text.proofs.Written.{_⨾_}
+use native.Mathlib.Omega.{arith}
+use borrow.Author.Needs.{needs}
+use Rattle.words.specs.Steps.{markedText}
+use Rattle.words.proofs.steps.put_marked.Statement.{statement}
+use Rattle.words.proofs.steps.put_marked.Tie as tie
+
+same-length : tie.Need-same-length
+same-length c =
+    let p2 = c .before .before in
+    let p1 = p2 .before .before .before .before .before in
+    omega (arith, p2 .put .kept .0, p1 .put-start .kept .0)
+
+returns : tie.Need-returns
+unfolding markedText
+returns c =
+    let p2 = c .before .before in
+    let p1 = p2 .before .before .before .before .before in
+    p1 .put-start .ensures ⨾ p2 .put .ensures
+
+pub put-marked-spec : {M : Type 1} → statement M
+put-marked-spec = tie.close (tie.spec (λ c κs. search needs) (λ c. search needs) (λ c κs. search needs) same-length returns)
