@@ -3,9 +3,9 @@ use mathlib.Core.Path.{_≡_, refl, ap, sym, subst, _∙_}
 use mathlib.Core.List.{List}
 use Prim.Native.Nat.{ℕ}
 use Rattle.sm83.specs.declared.state.Cpu.{Cpu}
-use Rattle.sm83.specs.Bus.{Ask, Operand}
-use Rattle.sm83.specs.Step.{Ended}
-use Rattle.sm83.specs.Execution.{Does, _>>=_, give, store}
+use Rattle.definition.specs.Bus.{Ask, Operand}
+use Rattle.definition.specs.Step.{Ended}
+use Rattle.definition.specs.Execution.{Does, _>>=_, give, store}
 use Rattle.memory.specs.declared.Port.{Port}
 use Rattle.memory.specs.World.{World, world, leads}
 use Rattle.accesses.specs.Leads.{Leads}

@@ -5,10 +5,10 @@ use Prim.Native.Nat.{ℕ, _+_, _*_, _%_}
 use lib.ListN.{set}
 use Rattle.sm83.specs.declared.state.Cpu.{Cpu}
 use Rattle.sm83.specs.Basics.{next, back, word, highByte, lowByte}
-use Rattle.sm83.specs.Bus.{Operand, byteAt}
+use Rattle.definition.specs.Bus.{Operand, byteAt}
 use Rattle.sm83.specs.declared.registers.CpuRegisters.{CpuRegisters}
 use Rattle.sm83.specs.State.{pc, sp, setPC, setSP, pairHL, writeHL, onRegisters}
-use Rattle.sm83.specs.Execution.{_>>=_, _>>_, give, setReg, regHL, imm8, imm16, load, store, wait, push, pop}
+use Rattle.definition.specs.Execution.{_>>=_, _>>_, give, setReg, regHL, imm8, imm16, load, store, wait, push, pop}
 use Rattle.memory.specs.declared.Port.{Port}
 use Rattle.memory.specs.World.{World, world, leads, counted}
 use Rattle.accesses.specs.Leads.{Leads}

@@ -3,9 +3,9 @@ use mathlib.Core.Path.{_≡_}
 use mathlib.Core.List.{List}
 use Prim.Native.Nat.{ℕ}
 use Rattle.sm83.specs.declared.state.Cpu.{Cpu}
-use Rattle.sm83.specs.Bus.{Ask}
-use Rattle.sm83.specs.Step.{Ended}
-use Rattle.sm83.specs.Execution.{Does}
+use Rattle.definition.specs.Bus.{Ask}
+use Rattle.definition.specs.Step.{Ended}
+use Rattle.definition.specs.Execution.{Does}
 use Rattle.memory.specs.declared.Port.{Port}
 use Rattle.memory.specs.World.{world, leads}
 

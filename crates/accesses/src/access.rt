@@ -1,8 +1,8 @@
 // A byte at an address, read or written.
 ghost use mathlib.Core.Path.{_≡_};
 ghost use lib.ListN.{length};
-ghost use Rattle.sm83.specs.Bus.{Operand};
-ghost use Rattle.sm83.specs.Execution.{load, store, high};
+ghost use Rattle.definition.specs.Bus.{Operand};
+ghost use Rattle.definition.specs.Execution.{load, store, high};
 ghost use Rattle.accesses.specs.Leads.{Leads};
 use crate::answers::Both;
 use crate::answers::Val16;

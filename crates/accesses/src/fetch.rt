@@ -1,7 +1,7 @@
 // Bytes at PC.
 ghost use mathlib.Core.Path.{_≡_};
 ghost use lib.ListN.{length};
-ghost use Rattle.sm83.specs.Execution.{imm8, imm16};
+ghost use Rattle.definition.specs.Execution.{imm8, imm16};
 ghost use Rattle.accesses.specs.Leads.{Leads};
 use crate::answers::Val8;
 use crate::answers::Val16;

@@ -1,7 +1,7 @@
 // The stack: it grows down, and a word's high byte goes first.
 ghost use mathlib.Core.Path.{_≡_};
 ghost use lib.ListN.{length};
-ghost use Rattle.sm83.specs.Execution.{push, pop};
+ghost use Rattle.definition.specs.Execution.{push, pop};
 ghost use Rattle.accesses.specs.Leads.{Leads};
 use crate::answers::Both;
 use crate::answers::Val16;

@@ -2,7 +2,7 @@
 use mathlib.Core.Path.{_≡_, refl}
 use Prim.Native.Nat.{ℕ, _<_}
 use Rattle.sm83.specs.Basics.{signed, lowByte}
-use Rattle.sm83.proofs.Tested.{agree}
+use Rattle.opcodes.proofs.Tested.{agree}
 
 pub low-of-signed : (e : ℕ) → e < 256 → lowByte (signed e) ≡ e
 low-of-signed = agree _ _ 256 refl

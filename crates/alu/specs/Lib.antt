@@ -1,2 +1,2 @@
 -- What the contracts of this crate are stated with.
-pub mod Computed
+pub mod Words

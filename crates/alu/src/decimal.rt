@@ -2,11 +2,11 @@
 ghost use mathlib.Core.Path.{_≡_};
 ghost use mathlib.Core.Bool.{false};
 ghost use Prim.Native.Nat.{_%_};
-ghost use Rattle.sm83.specs.Arithmetic.{isZero, daa};
-ghost use Rattle.alu.specs.Computed.{computed, byteWith};
-use crate::flags::Computed;
-use crate::flags::flagged;
-use crate::flags::weight;
+ghost use Rattle.opcodes.specs.Arithmetic.{isZero, daa};
+ghost use Rattle.flags.specs.Computed.{computed, byteWith};
+use flags::Computed;
+use flags::flagged;
+use flags::weight;
 use sm83::registers::CpuRegisters;
 
 pub fn daa(a: u8, f: u8) -> Computed

@@ -1,8 +1,4 @@
-// Arithmetic on bytes and flags: no memory, no state. Each function is equal to the definition's (sm83, specs/Arithmetic).
-pub mod bits;
+// Sums, differences and DAA, on bytes and words: no memory, no state. Each function is equal to the definition's (opcodes, specs/Arithmetic).
 pub mod decimal;
-pub mod flags;
-pub mod logic;
-pub mod shifts;
 pub mod sums;
 pub mod words;

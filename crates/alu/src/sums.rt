@@ -1,11 +1,11 @@
 // Sums and differences of bytes. H is the carry out of bit 3 or the borrow into bit 4, C that of bit 7 or 8.
 ghost use mathlib.Core.Path.{_≡_};
 ghost use Rattle.sm83.specs.Basics.{bit};
-ghost use Rattle.sm83.specs.Arithmetic.{carry, sum, difference, increment, decrement};
-ghost use Rattle.alu.specs.Computed.{computed};
-use crate::flags::Computed;
-use crate::flags::bit_of;
-use crate::flags::flagged;
+ghost use Rattle.opcodes.specs.Arithmetic.{carry, sum, difference, increment, decrement};
+ghost use Rattle.flags.specs.Computed.{computed};
+use flags::Computed;
+use flags::bit_of;
+use flags::flagged;
 use sm83::registers::CpuRegisters;
 
 pub fn inc(x: u8, f: u8) -> Computed

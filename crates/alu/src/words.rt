@@ -2,9 +2,9 @@
 ghost use mathlib.Core.Path.{_≡_};
 ghost use Prim.Native.Nat.{_+_, _%_};
 ghost use Rattle.sm83.specs.Basics.{signed, lowByte};
-ghost use Rattle.sm83.specs.Arithmetic.{wordSumFlags, offsetFlags};
-ghost use Rattle.alu.specs.Computed.{wordWith};
-use crate::flags::flag_byte;
+ghost use Rattle.opcodes.specs.Arithmetic.{wordSumFlags, offsetFlags};
+ghost use Rattle.alu.specs.Words.{wordWith};
+use flags::flag_byte;
 use sm83::registers::CpuRegisters;
 
 pub struct ComputedWord {

@@ -6,7 +6,7 @@ use lib.ListN.{length, take, drop}
 use Rattle.sm83.specs.declared.addr.MCycles.{MCycles}
 use Rattle.sm83.specs.declared.outcome.LastOutcome.{LastOutcome}
 use Rattle.sm83.specs.declared.outcome.Verdict.{Verdict}
-use Rattle.sm83.specs.Bus.{byteAt}
+use Rattle.definition.specs.Bus.{byteAt}
 use Rattle.sm83.specs.Numbers.{lastNumber, verdictNumber}
 use Rattle.blocks.specs.Bytes.{wordAt, countAt}
 use Rattle.blocks.specs.StateBlock.{registersAt, flagAt}

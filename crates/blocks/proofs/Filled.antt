@@ -10,7 +10,7 @@ use lib.ListN.{length, drop, length-append, length-drop}
 use lib.Seq.{drop-cons}
 use borrow.Author.Tests.{eq-eqb, ne-eqb, eqb-true}
 use Rattle.sm83.specs.Basics.{if_then_else_}
-use Rattle.sm83.specs.Bus.{byteAt}
+use Rattle.definition.specs.Bus.{byteAt}
 use Rattle.blocks.specs.Bytes.{filled}
 
 by-test : (t : Bool) (size : ℕ) (bytes block : List ℕ) → eqb (length block) size ≡ t → filled size bytes block ≡ (if t then bytes ++ drop (length bytes) block else block)

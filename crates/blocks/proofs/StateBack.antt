@@ -5,8 +5,8 @@ use Prim.Native.Nat.{ℕ}
 use native.Mathlib.Omega.{arith}
 use lib.ListN.{length, drop}
 use Rattle.sm83.specs.declared.state.Cpu.{Cpu}
-use Rattle.sm83.specs.Bus.{byteAt}
-use Rattle.sm83.proofs.Ranges.{Bytes}
+use Rattle.definition.specs.Bus.{byteAt}
+use Rattle.definition.proofs.Ranges.{Bytes}
 use Rattle.blocks.specs.declared.state.StateRead.the-variants.{State}
 use Rattle.blocks.specs.StateBlock.{stateFields, stateBytes, stateAt, stateOf}
 use Rattle.blocks.proofs.Coded.{low-back, high-back, flag-back, halt-back}

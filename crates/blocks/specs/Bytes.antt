@@ -4,7 +4,7 @@ use Prim.Native.Nat.{ℕ, _+_, _*_, _/_, _%_}
 use lib.Dec.{eqb}
 use lib.ListN.{length, drop}
 use Rattle.sm83.specs.Basics.{if_then_else_, word, highByte, lowByte}
-use Rattle.sm83.specs.Bus.{byteAt}
+use Rattle.definition.specs.Bus.{byteAt}
 
 -- a word: two bytes
 abbrev pub wordBytes : ℕ → List ℕ

@@ -5,7 +5,7 @@ use mathlib.Core.List.{List}
 use Prim.Native.Nat.{ℕ}
 use lib.Dec.{T}
 use Rattle.sm83.specs.declared.state.Cpu.{Cpu}
-use Rattle.sm83.specs.Execution.{_>>=_, _>>_, give}
+use Rattle.definition.specs.Execution.{_>>=_, _>>_, give}
 use Rattle.instruction.specs.declared.instruction.Instruction.{Instruction}
 use Rattle.memory.specs.declared.Port.{Port}
 use Rattle.accesses.specs.Leads.{Leads}
@@ -13,7 +13,7 @@ use Rattle.mirror.specs.Operands.{readOperand, writeOperand}
 use Rattle.mirror.specs.Mirror.{Made, compute, execRow}
 use Rattle.instruction.specs.Operand.{readable, writable}
 use Rattle.mirror.specs.Runnable.{executable, runnable}
-use Rattle.sm83.proofs.Tested.{and-left, and-right}
+use Rattle.opcodes.proofs.Tested.{and-left, and-right}
 use Rattle.accesses.proofs.Leading.{after}
 
 module _ (s t u w : Cpu) (port port1 port2 port3 : Port) (m m1 m2 m3 : List ℕ) (i : Instruction) (at v : ℕ) (a : Made) where

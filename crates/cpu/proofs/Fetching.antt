@@ -9,12 +9,12 @@ use Rattle.sm83.specs.declared.state.Cpu.{Cpu}
 use Rattle.sm83.specs.declared.state.HaltMode.the-variants.{NotHalting}
 use Rattle.sm83.specs.declared.outcome.Outcome.{Outcome}
 use Rattle.sm83.specs.Basics.{if_then_else_, next}
-use Rattle.sm83.specs.Bus.{Fetch, Ask, read, byteAt}
+use Rattle.definition.specs.Bus.{Fetch, Ask, read, byteAt}
 use Rattle.sm83.specs.State.{pc, setPC, setIme, setLatch, setHalt}
-use Rattle.sm83.specs.Instruction.{decode, decodeCB}
-use Rattle.sm83.specs.Execution.{Does, _>>_, byteAtPC, imm8, prefixed, normal, execute}
-use Rattle.sm83.specs.Step.{Ended, isBug, enabled, fetched, instruction}
-use Rattle.sm83.proofs.Ranges.{Bytes}
+use Rattle.opcodes.specs.Instruction.{decode, decodeCB}
+use Rattle.definition.specs.Execution.{Does, _>>_, byteAtPC, imm8, prefixed, normal, execute}
+use Rattle.definition.specs.Step.{Ended, isBug, enabled, fetched, instruction}
+use Rattle.definition.proofs.Ranges.{Bytes}
 use Rattle.instruction.specs.declared.instruction.Instruction.{Instruction}
 use Rattle.instruction.specs.Row.{rowOf, prefixedRow}
 use Rattle.memory.specs.declared.Port.{Port}

@@ -9,11 +9,11 @@ use Rattle.sm83.specs.declared.state.HaltMode.the-variants.{NotHalting}
 use Rattle.sm83.specs.declared.outcome.Outcome.{Outcome}
 use Rattle.sm83.specs.declared.outcome.Outcome.the-variants.{Halting, Stopped, RunningHDMA}
 use Rattle.sm83.specs.Basics.{if_then_else_, back, highByte, lowByte}
-use Rattle.sm83.specs.Bus.{Ask, isInterrupt, pending, taken}
+use Rattle.definition.specs.Bus.{Ask, isInterrupt, pending, taken}
 use Rattle.sm83.specs.State.{pc, sp, setPC, setSP, setIme, setHalt}
-use Rattle.sm83.specs.Execution.{Does, _>>=_, _>>_, give, wait, asked}
-use Rattle.sm83.specs.Step.{Ended, isAsleep, vector, dispatch, instruction, awake, woken, step}
-use Rattle.sm83.proofs.Choices.{if-so, if-not}
+use Rattle.definition.specs.Execution.{Does, _>>=_, _>>_, give, wait, asked}
+use Rattle.definition.specs.Step.{Ended, isAsleep, vector, dispatch, instruction, awake, woken, step}
+use Rattle.opcodes.proofs.Choices.{if-so, if-not}
 use Rattle.memory.specs.declared.Port.{Port}
 use Rattle.memory.specs.World.{World, world, leads, counted}
 use Rattle.accesses.specs.Leads.{Leads}

@@ -8,10 +8,10 @@ use Rattle.sm83.specs.declared.state.HaltMode.the-variants.{NotHalting}
 use Rattle.sm83.specs.declared.outcome.Outcome.{Outcome}
 use Rattle.sm83.specs.declared.outcome.Outcome.the-variants.{Normal, Halting, RunningInterrupt}
 use Rattle.sm83.specs.Basics.{if_then_else_}
-use Rattle.sm83.specs.Bus.{Ask, isInterrupt}
+use Rattle.definition.specs.Bus.{Ask, isInterrupt}
 use Rattle.sm83.specs.State.{setPC, setHalt}
-use Rattle.sm83.specs.Execution.{Does, _>>=_, _>>_, give, state, wait, asked}
-use Rattle.sm83.specs.Step.{Ended, isAsleep, isBug, instruction, awake, woken}
+use Rattle.definition.specs.Execution.{Does, _>>=_, _>>_, give, state, wait, asked}
+use Rattle.definition.specs.Step.{Ended, isAsleep, isBug, instruction, awake, woken}
 use Rattle.instruction.specs.declared.instruction.Instruction.{Instruction}
 use Rattle.memory.specs.declared.Port.{Port}
 use Rattle.memory.specs.World.{world, leads}

@@ -11,13 +11,13 @@ use Rattle.sm83.specs.declared.outcome.Outcome.the-variants.{Normal, InfiniteLo
 use Rattle.sm83.specs.declared.outcome.Refusal.the-variants.{IllegalOpcode}
 use Rattle.sm83.specs.Basics.{if_then_else_, lowByte, next, back, cleared, raised}
 use Rattle.sm83.specs.State.{onRegisters, writeA, writeF, setF, setPC, setIme, setLatch, setStopped}
-use Rattle.sm83.specs.Arithmetic.{Result, aluOp, accOp, shiftOp, increment, decrement, difference, bitTest}
-use Rattle.sm83.specs.Instruction.{Alu, ADD, ADC, SUB, SBC, AND, XOR, OR, CP, Acc, RLCA, RRCA, RLA, RRA, DAA, CPL, SCF, CCF, Shift, RLC, RRC, RL, RR, SLA, SRA, SWAP, SRL}
+use Rattle.opcodes.specs.Arithmetic.{Result, aluOp, accOp, shiftOp, increment, decrement, difference, bitTest}
+use Rattle.opcodes.specs.Instruction.{Alu, ADD, ADC, SUB, SBC, AND, XOR, OR, CP, Acc, RLCA, RRCA, RLA, RRA, DAA, CPL, SCF, CCF, Shift, RLC, RRC, RL, RR, SLA, SRA, SWAP, SRL}
 use Rattle.instruction.specs.declared.condition.Condition.{Condition}
 use Rattle.instruction.specs.declared.opcode.Opcode.{Opcode}
 use Rattle.instruction.specs.declared.opcode.Opcode.the-variants as op
-use Rattle.alu.specs.declared.flags.Computed.{Computed}
-use Rattle.alu.specs.Computed.{computed}
+use Rattle.flags.specs.declared.Computed.{Computed}
+use Rattle.flags.specs.Computed.{computed}
 use Rattle.memory.specs.declared.Port.{Port}
 use Rattle.execution.specs.declared.answers.Worked.{Worked}
 use Rattle.accesses.specs.Leads.{Leads}

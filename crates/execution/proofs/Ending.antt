@@ -3,8 +3,8 @@ use mathlib.Core.Path.{_≡_, sym, subst}
 use mathlib.Core.List.{List}
 use Prim.Native.Nat.{ℕ}
 use Rattle.sm83.specs.declared.state.Cpu.{Cpu}
-use Rattle.sm83.specs.Step.{Ended}
-use Rattle.sm83.specs.Execution.{Does}
+use Rattle.definition.specs.Step.{Ended}
+use Rattle.definition.specs.Execution.{Does}
 use Rattle.memory.specs.declared.Port.{Port}
 use Rattle.accesses.specs.Leads.{Leads}
 use Rattle.mirror.specs.Mirror.{Made}

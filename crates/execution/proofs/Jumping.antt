@@ -8,10 +8,10 @@ use Rattle.sm83.specs.declared.state.Cpu.{Cpu}
 use Rattle.sm83.specs.declared.state.HaltMode.the-variants.{HaltRunInterrupt, HaltNoRunInterrupt, HaltBug}
 use Rattle.sm83.specs.declared.outcome.Outcome.the-variants.{Normal, InfiniteLoop}
 use Rattle.sm83.specs.Basics.{if_then_else_}
-use Rattle.sm83.specs.Bus.{Ask, pending}
-use Rattle.sm83.specs.Step.{Ended}
+use Rattle.definition.specs.Bus.{Ask, pending}
+use Rattle.definition.specs.Step.{Ended}
 use Rattle.sm83.specs.State.{pc, setPC, setHalt}
-use Rattle.sm83.specs.Execution.{Does, _>>=_, _>>_, nothing, change, goTo, wait, push, pop, return}
+use Rattle.definition.specs.Execution.{Does, _>>=_, _>>_, nothing, change, goTo, wait, push, pop, return}
 use Rattle.instruction.specs.declared.condition.Condition.{Condition}
 use Rattle.memory.specs.declared.Port.{Port}
 use Rattle.memory.specs.World.{world, leads, counted}

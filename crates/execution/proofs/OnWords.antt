@@ -5,10 +5,10 @@ use Prim.Native.Nat.{ℕ, _+_, _%_}
 use Rattle.sm83.specs.declared.state.Cpu.{Cpu}
 use Rattle.sm83.specs.declared.outcome.Outcome.the-variants.{Normal}
 use Rattle.sm83.specs.State.{pairHL, setSP, setF}
-use Rattle.sm83.specs.Arithmetic.{wordSumFlags}
-use Rattle.sm83.specs.Execution.{_>>_, wait, push, pop}
+use Rattle.opcodes.specs.Arithmetic.{wordSumFlags}
+use Rattle.definition.specs.Execution.{_>>_, wait, push, pop}
 use Rattle.alu.specs.declared.words.ComputedWord.{ComputedWord}
-use Rattle.alu.specs.Computed.{wordWith}
+use Rattle.alu.specs.Words.{wordWith}
 use Rattle.memory.specs.declared.Port.{Port}
 use Rattle.memory.specs.World.{leads, counted}
 use Rattle.execution.specs.declared.answers.Worked.{Worked}

@@ -5,7 +5,7 @@ use Rattle.sm83.specs.declared.outcome.Outcome.the-variants.{Normal}
 use Rattle.sm83.specs.declared.state.Cpu.{Cpu}
 use Rattle.sm83.specs.Basics.{lowByte}
 use Rattle.sm83.specs.State.{sp, setF}
-use Rattle.sm83.specs.Arithmetic.{offsetFlags}
+use Rattle.opcodes.specs.Arithmetic.{offsetFlags}
 use Rattle.memory.specs.declared.Port.{Port}
 use Rattle.mirror.specs.Mirror.{Made}
 use Rattle.execution.specs.declared.answers.Worked.{Worked}

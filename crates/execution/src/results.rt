@@ -5,7 +5,7 @@ ghost use Rattle.sm83.specs.State.{onRegisters, writeA, writeF};
 ghost use Rattle.execution.specs.Worked.{worked};
 use crate::answers::Worked;
 use accesses::answers::with_registers;
-use alu::flags::Computed;
+use flags::Computed;
 use memory::Port;
 use sm83::outcome::Outcome;
 use sm83::state::Cpu;

@@ -2,8 +2,8 @@
 use mathlib.Core.Path.{_≡_, refl}
 use mathlib.Core.Bool.{true}
 use Prim.Native.Nat.{ℕ, _<_}
-use Rattle.sm83.specs.Instruction.{decode, decodeCB}
-use Rattle.sm83.proofs.Tested.{agree}
+use Rattle.opcodes.specs.Instruction.{decode, decodeCB}
+use Rattle.opcodes.proofs.Tested.{agree}
 use Rattle.instruction.specs.Row.{rowOf, prefixedRow}
 use Rattle.instruction.specs.Operand.{readable, writable}
 

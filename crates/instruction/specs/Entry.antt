@@ -5,7 +5,7 @@ use Prim.Native.Nat.{ℕ, _-_, _*_, _/_, _%_, _<_}
 use lib.Dec.{ltb}
 use lib.ListN.{getD}
 use Rattle.sm83.specs.Basics.{if_then_else_}
-use Rattle.sm83.specs.Instruction.{decode, decodeCB}
+use Rattle.opcodes.specs.Instruction.{decode, decodeCB}
 use Rattle.instruction.specs.declared.operand.OperandType.{OperandType}
 use Rattle.instruction.specs.declared.operand.OperandType.the-variants as ot
 use Rattle.instruction.specs.declared.condition.Condition.{Condition}

@@ -1,6 +1,6 @@
 // An instruction of 001, from its byte and a lent table. Its address, which the Rust keeps in it, stands beside it here.
 ghost use mathlib.Core.Path.{_≡_};
-ghost use Rattle.sm83.specs.Instruction.{decode, decodeCB};
+ghost use Rattle.opcodes.specs.Instruction.{decode, decodeCB};
 ghost use Rattle.instruction.specs.Row.{rowOf, prefixedRow};
 ghost use Rattle.instruction.specs.Entry.{rowAt, Plain, Prefixed};
 use crate::condition::condition_of;

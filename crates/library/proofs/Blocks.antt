@@ -9,9 +9,9 @@ use borrow.Author.Tests.{eq-eqb, ne-eqb}
 use Rattle.sm83.specs.declared.state.Cpu.{Cpu}
 use Rattle.sm83.specs.declared.outcome.Verdict.{Verdict}
 use Rattle.sm83.specs.Basics.{if_then_else_}
-use Rattle.sm83.specs.Bus.{plain}
+use Rattle.definition.specs.Bus.{plain}
 use Rattle.sm83.specs.Numbers.{lastNumber, verdictNumber}
-use Rattle.sm83.specs.Run.{RunAnswer, runFor}
+use Rattle.definition.specs.Run.{RunAnswer, runFor}
 use Rattle.routine.specs.Screen.{screen}
 use Rattle.run.specs.declared.Ran.{Ran}
 use Rattle.run.specs.Answers.{answer}

@@ -7,9 +7,9 @@ use lib.ListN.{length}
 use Rattle.sm83.specs.declared.addr.MCycles.{MCycles}
 use Rattle.sm83.specs.declared.state.Cpu.{Cpu}
 use Rattle.sm83.specs.Basics.{if_then_else_}
-use Rattle.sm83.specs.Bus.{plain}
+use Rattle.definition.specs.Bus.{plain}
 use Rattle.sm83.specs.Numbers.{lastNumber, verdictNumber}
-use Rattle.sm83.specs.Run.{RunAnswer, runFor}
+use Rattle.definition.specs.Run.{RunAnswer, runFor}
 use Rattle.routine.specs.Screen.{Screened, screen}
 use Rattle.blocks.specs.declared.state.StateRead.{StateRead}
 use Rattle.blocks.specs.declared.state.StateRead.the-variants.{State, Malformed}

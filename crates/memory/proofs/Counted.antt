@@ -2,7 +2,7 @@
 use mathlib.Core.Path.{_≡_, refl}
 use Prim.Native.Nat.{ℕ, suc, _+_, _%_, _<_}
 use native.Mathlib.Omega.{arith}
-use Rattle.sm83.specs.Bus.{Ask, answer, read, write, idle, peek, writeAndTake, Stack, byteAt, pending, runOn, plain, mcycles}
+use Rattle.definition.specs.Bus.{Ask, answer, read, write, idle, peek, writeAndTake, Stack, byteAt, pending, runOn, plain, mcycles}
 use Rattle.memory.specs.World.{World, world, counted, counting, leads}
 
 pub same-value : {A : Type 0} (p : Ask A) (w : World) → leads p w .value ≡ runOn plain p (w .bytes) .value

@@ -8,8 +8,8 @@ use lib.Dec.{ltb}
 use lib.ListN.{set, List·getD-eq-default}
 use borrow.Author.Tests.{ltb-true}
 use Rattle.sm83.specs.Basics.{if_then_else_, cleared}
-use Rattle.sm83.specs.Bus.{byteAt, pending, taken}
-use Rattle.sm83.specs.Step.{vector}
+use Rattle.definition.specs.Bus.{byteAt, pending, taken}
+use Rattle.definition.specs.Step.{vector}
 
 small : (i : ℕ) → ltb i 5 ≡ true → i % 8 ≡ i
 small i e = let h : i < 5 = ltb-true i 5 e in omega arith

@@ -3,13 +3,13 @@ ghost use mathlib.Core.Path.{_≡_};
 ghost use Prim.Native.Nat.{_%_};
 ghost use lib.ListN.{length, set};
 ghost use Rattle.sm83.specs.Basics.{cleared};
-ghost use Rattle.sm83.specs.Bus.{byteAt, lowest, pending, taken};
-ghost use Rattle.sm83.specs.Step.{vector};
+ghost use Rattle.definition.specs.Bus.{byteAt, lowest, pending, taken};
+ghost use Rattle.definition.specs.Step.{vector};
 ghost use Rattle.memory.specs.World.{counted};
 use crate::Got;
 use crate::Port;
 use crate::write;
-use alu::bits::res;
+use bitwise::bits::res;
 use sm83::addr::Addr;
 
 const INTERRUPTS_VECTOR: [u16; 5] = [0x40, 0x48, 0x50, 0x58, 0x60];

@@ -1,7 +1,7 @@
 // Plain memory: the 65,536 bytes that the caller lends, and a port that counts the M-cycles.
 ghost use mathlib.Core.Path.{_≡_};
 ghost use lib.ListN.{length, set};
-ghost use Rattle.sm83.specs.Bus.{byteAt};
+ghost use Rattle.definition.specs.Bus.{byteAt};
 ghost use Rattle.memory.specs.World.{counted};
 use sm83::addr::Addr;
 use sm83::addr::MCycles;

@@ -6,18 +6,18 @@ use Prim.Native.Nat.{ℕ, _<_}
 use lib.Dec.{eqb, T}
 use Rattle.sm83.specs.declared.state.Cpu.{Cpu}
 use Rattle.sm83.specs.declared.outcome.Outcome.{Outcome}
-use Rattle.sm83.specs.Bus.{Ask}
-use Rattle.sm83.specs.Instruction.{does, goes, CB-prefix, HALT, STOP, EI, LD-B-B, ILLEGAL, decode, decodeCB}
-use Rattle.sm83.specs.Instruction as defined
-use Rattle.sm83.specs.Execution.{Does, _>>_, prefixed, normal, execute, executing}
-use Rattle.sm83.specs.Step.{Ended}
-use Rattle.sm83.proofs.Tested.{and-left, and-right, below, at}
+use Rattle.definition.specs.Bus.{Ask}
+use Rattle.opcodes.specs.Instruction.{does, goes, CB-prefix, HALT, STOP, EI, LD-B-B, ILLEGAL, decode, decodeCB}
+use Rattle.opcodes.specs.Instruction as defined
+use Rattle.definition.specs.Execution.{Does, _>>_, prefixed, normal, execute, executing}
+use Rattle.definition.specs.Step.{Ended}
+use Rattle.opcodes.proofs.Tested.{and-left, and-right, below, at}
 use Rattle.instruction.specs.Row.{rowOf, prefixedRow}
 use Rattle.memory.specs.declared.Port.{Port}
 use Rattle.memory.specs.World.{world, leads}
 use Rattle.mirror.specs.Mirror.{execRow, mirroring}
 use Rattle.mirror.specs.Runnable.{runnable}
-use Rattle.sm83.proofs.Ranges.{Bytes}
+use Rattle.definition.proofs.Ranges.{Bytes}
 use Rattle.mirror.proofs.Small.{ByteRegisters}
 use Rattle.mirror.proofs.BridgeWork.{work-row}
 use Rattle.mirror.proofs.BridgeJump.{jump-row}

@@ -4,18 +4,18 @@ use mathlib.Core.List.{List}
 use Prim.Native.Nat.{ℕ, _<_}
 use Rattle.sm83.specs.declared.state.Cpu.{Cpu}
 use Rattle.sm83.specs.Basics.{lowByte}
-use Rattle.sm83.specs.Bus.{Ask}
+use Rattle.definition.specs.Bus.{Ask}
 use Rattle.sm83.specs.State.{pairHL, flags, setF}
-use Rattle.sm83.specs.Arithmetic.{Result}
-use Rattle.sm83.specs.Instruction.{Reg8, rB, rC, rD, rE, rH, rL, [HL], rA}
-use Rattle.sm83.specs.Execution.{get8, put8, into8}
-use Rattle.sm83.specs.Step.{Ended}
+use Rattle.opcodes.specs.Arithmetic.{Result}
+use Rattle.opcodes.specs.Instruction.{Reg8, rB, rC, rD, rE, rH, rL, [HL], rA}
+use Rattle.definition.specs.Execution.{get8, put8, into8}
+use Rattle.definition.specs.Step.{Ended}
 use Rattle.instruction.specs.Row.{operand8}
 use Rattle.memory.specs.declared.Port.{Port}
 use Rattle.memory.specs.World.{world, leads, counted}
 use Rattle.mirror.specs.Operands.{readOperand, writeOperand}
 use Rattle.mirror.specs.Mirror.{mirroring}
-use Rattle.sm83.proofs.Ranges.{Bytes}
+use Rattle.definition.proofs.Ranges.{Bytes}
 use Rattle.mirror.proofs.Small.{ByteRegisters, kept}
 
 -- equal trees lead to equal ends

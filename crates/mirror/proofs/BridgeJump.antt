@@ -6,12 +6,12 @@ use Prim.Native.Nat.{ℕ}
 use Rattle.sm83.specs.declared.state.Cpu.{Cpu}
 use Rattle.sm83.specs.declared.outcome.Outcome.{Outcome}
 use Rattle.sm83.specs.Basics.{if_then_else_}
-use Rattle.sm83.specs.Bus.{Ask}
+use Rattle.definition.specs.Bus.{Ask}
 use Rattle.sm83.specs.State.{flags}
-use Rattle.sm83.specs.Arithmetic.{holds}
-use Rattle.sm83.specs.Instruction.{Cond, cNZ, cZ, cNC, cC, goes, Jump, JP-n16, JP-HL, JR-e8, CALL-n16, RET, RETI, JP-cc-n16, JR-cc-e8, CALL-cc-n16, RET-cc, RST-vec}
-use Rattle.sm83.specs.Execution.{Does, execute, executing}
-use Rattle.sm83.specs.Step.{Ended}
+use Rattle.opcodes.specs.Arithmetic.{holds}
+use Rattle.opcodes.specs.Instruction.{Cond, cNZ, cZ, cNC, cC, goes, Jump, JP-n16, JP-HL, JR-e8, CALL-n16, RET, RETI, JP-cc-n16, JR-cc-e8, CALL-cc-n16, RET-cc, RST-vec}
+use Rattle.definition.specs.Execution.{Does, execute, executing}
+use Rattle.definition.specs.Step.{Ended}
 use Rattle.instruction.specs.Row.{condition, jumpRow}
 use Rattle.memory.specs.declared.Port.{Port}
 use Rattle.memory.specs.World.{World, world, leads}

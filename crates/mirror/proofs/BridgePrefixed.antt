@@ -8,19 +8,19 @@ use Rattle.sm83.specs.declared.state.Cpu.{Cpu}
 use Rattle.sm83.specs.declared.outcome.Outcome.{Outcome}
 use Rattle.sm83.specs.declared.outcome.Outcome.the-variants.{Normal}
 use Rattle.sm83.specs.Basics.{cleared, raised}
-use Rattle.sm83.specs.Bus.{Ask}
+use Rattle.definition.specs.Bus.{Ask}
 use Rattle.sm83.specs.State.{flags, setF}
-use Rattle.sm83.specs.Arithmetic.{shiftOp, bitTest}
-use Rattle.sm83.specs.Instruction.{Reg8, Shift, RLC, RRC, RL, RR, SLA, SRA, SWAP, SRL, Prefixed, SHIFT-r8, BIT-u3-r8, RES-u3-r8, SET-u3-r8, reg8, shift, decodeCB}
-use Rattle.sm83.specs.Execution.{Does, _>>_, into8, put8, prefixed, normal, executing}
-use Rattle.sm83.specs.Step.{Ended}
+use Rattle.opcodes.specs.Arithmetic.{shiftOp, bitTest}
+use Rattle.opcodes.specs.Instruction.{Reg8, Shift, RLC, RRC, RL, RR, SLA, SRA, SWAP, SRL, Prefixed, SHIFT-r8, BIT-u3-r8, RES-u3-r8, SET-u3-r8, reg8, shift, decodeCB}
+use Rattle.definition.specs.Execution.{Does, _>>_, into8, put8, prefixed, normal, executing}
+use Rattle.definition.specs.Step.{Ended}
 use Rattle.instruction.specs.Row.{operand8, shiftCode, prefixedRow}
 use Rattle.memory.specs.declared.Port.{Port}
 use Rattle.memory.specs.World.{world, leads}
 use Rattle.mirror.specs.Operands.{writeOperand}
 use Rattle.mirror.specs.Mirror.{compute, execRow, mirroring}
-use Rattle.sm83.proofs.Ranged.{shift-sound, cleared-byte, raised-byte}
-use Rattle.sm83.proofs.Ranges.{Bytes}
+use Rattle.definition.proofs.Ranged.{shift-sound, cleared-byte, raised-byte}
+use Rattle.definition.proofs.Ranges.{Bytes}
 use Rattle.mirror.proofs.Small.{ByteRegisters, kept}
 use Rattle.mirror.proofs.Bridge8.{on, reads, writes, written}
 

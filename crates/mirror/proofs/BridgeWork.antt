@@ -7,13 +7,13 @@ use Rattle.sm83.specs.declared.state.Cpu.{Cpu}
 use Rattle.sm83.specs.declared.outcome.Outcome.{Outcome}
 use Rattle.sm83.specs.declared.outcome.Outcome.the-variants.{Normal}
 use Rattle.sm83.specs.Basics.{lowByte, next}
-use Rattle.sm83.specs.Bus.{Ask, byteAt}
+use Rattle.definition.specs.Bus.{Ask, byteAt}
 use Rattle.sm83.specs.State.{pc, writeA, onRegisters, setF, setPC}
-use Rattle.sm83.specs.Arithmetic.{Result, aluOp, difference, increment, decrement}
-use Rattle.sm83.specs.Instruction.{Reg16, rBC, rDE, rHL, rSP, pBC, pDE, pHL, pAF, [BC], [DE], [HL+], [HL-], Alu, ADD, ADC, SUB, SBC, AND, XOR, OR, CP, RLCA, RRCA, RLA, RRA, DAA, CPL, SCF, CCF, does}
-use Rattle.sm83.specs.Instruction.{Work, NOP, DI, LD-r8-r8, LD-r8-n8, LD-r16-n16, LD-[r16]-A, LD-A-[r16], LD-[n16]-A, LD-A-[n16], LDH-[n8]-A, LDH-A-[n8], LDH-[C]-A, LDH-A-[C], LD-[n16]-SP, LD-SP-HL, LD-HL-SP+e8, ADD-SP-e8, ALU-A-r8, ALU-A-n8, ACC, INC-r8, DEC-r8, INC-r16, DEC-r16, ADD-HL-r16, PUSH-r16, POP-r16}
-use Rattle.sm83.specs.Execution.{get16, put16, moved, intoA, execute, executing}
-use Rattle.sm83.specs.Step.{Ended}
+use Rattle.opcodes.specs.Arithmetic.{Result, aluOp, difference, increment, decrement}
+use Rattle.opcodes.specs.Instruction.{Reg16, rBC, rDE, rHL, rSP, pBC, pDE, pHL, pAF, [BC], [DE], [HL+], [HL-], Alu, ADD, ADC, SUB, SBC, AND, XOR, OR, CP, RLCA, RRCA, RLA, RRA, DAA, CPL, SCF, CCF, does}
+use Rattle.opcodes.specs.Instruction.{Work, NOP, DI, LD-r8-r8, LD-r8-n8, LD-r16-n16, LD-[r16]-A, LD-A-[r16], LD-[n16]-A, LD-A-[n16], LDH-[n8]-A, LDH-A-[n8], LDH-[C]-A, LDH-A-[C], LD-[n16]-SP, LD-SP-HL, LD-HL-SP+e8, ADD-SP-e8, ALU-A-r8, ALU-A-n8, ACC, INC-r8, DEC-r8, INC-r16, DEC-r16, ADD-HL-r16, PUSH-r16, POP-r16}
+use Rattle.definition.specs.Execution.{get16, put16, moved, intoA, execute, executing}
+use Rattle.definition.specs.Step.{Ended}
 use Rattle.instruction.specs.declared.operand.OperandType.{OperandType}
 use Rattle.instruction.specs.declared.instruction.Instruction.{Instruction}
 use Rattle.instruction.specs.Row.{operand16, aluRow, workRow}
@@ -21,8 +21,8 @@ use Rattle.memory.specs.declared.Port.{Port}
 use Rattle.memory.specs.World.{world, leads, counted}
 use Rattle.mirror.specs.Operands.{readOperand, writeOperand}
 use Rattle.mirror.specs.Mirror.{compute, execRow, mirroring}
-use Rattle.sm83.proofs.Ranged.{alu-sound}
-use Rattle.sm83.proofs.Ranges.{Bytes}
+use Rattle.definition.proofs.Ranged.{alu-sound}
+use Rattle.definition.proofs.Ranges.{Bytes}
 use Rattle.mirror.proofs.Small.{ByteRegisters, kept, signed-low}
 use Rattle.mirror.proofs.Bridge8.{on, reads, writes, written}
 

@@ -11,12 +11,13 @@ use Rattle.instruction.specs.declared.opcode.Opcode.{Opcode}
 use Rattle.instruction.specs.declared.opcode.Opcode.the-variants as op
 use Rattle.instruction.specs.declared.instruction.Instruction.{Instruction}
 use Rattle.sm83.specs.Basics.{if_then_else_, cleared, raised, lowByte, highByte, next, back, signed}
-use Rattle.sm83.specs.Bus.{Operand}
+use Rattle.definition.specs.Bus.{Operand}
 use Rattle.sm83.specs.State.{pairAF, pairBC, pairDE, pairHL, writeA, writeF, writeSP, putBC, putDE, putHL, writeBC, writeDE, writeHL, writeAF, setF, sp, setPC, setIme, setLatch, setStopped}
-use Rattle.sm83.specs.Arithmetic.{Result, flagZ, flagC, aluOp, accOp, shiftOp, increment, decrement, bitTest, wordSumFlags, offsetFlags}
-use Rattle.sm83.specs.Instruction.{Alu, ADD, ADC, SUB, SBC, AND, XOR, OR, CP, Acc, RLCA, RRCA, RLA, RRA, DAA, CPL, SCF, CCF, Shift, RLC, RRC, RL, RR, SLA, SRA, SWAP, SRL}
+use Rattle.sm83.specs.Flags.{flagZ, flagC}
+use Rattle.opcodes.specs.Arithmetic.{Result, aluOp, accOp, shiftOp, increment, decrement, bitTest, wordSumFlags, offsetFlags}
+use Rattle.opcodes.specs.Instruction.{Alu, ADD, ADC, SUB, SBC, AND, XOR, OR, CP, Acc, RLCA, RRCA, RLA, RRA, DAA, CPL, SCF, CCF, Shift, RLC, RRC, RL, RR, SLA, SRA, SWAP, SRL}
 use Rattle.mirror.specs.Operands.{readOperand, writeOperand}
-use Rattle.sm83.specs.Execution.{Does, _>>=_, _>>_, give, nothing, change, reg, setReg, regA, regC, regF, regSP, regPC, regHL, load, store, wait, imm8, imm16, push, pop, high, halt, goTo, call, return}
+use Rattle.definition.specs.Execution.{Does, _>>=_, _>>_, give, nothing, change, reg, setReg, regA, regC, regF, regSP, regPC, regHL, load, store, wait, imm8, imm16, push, pop, high, halt, goTo, call, return}
 
 -- `check_cond`
 unfoldable pub checkCond : Condition → ℕ → Bool

@@ -3,9 +3,9 @@ use Prim.Native.Nat.{ℕ}
 use Rattle.instruction.specs.declared.operand.OperandType.{OperandType}
 use Rattle.instruction.specs.declared.operand.OperandType.the-variants as ot
 use Rattle.sm83.specs.Basics.{lowByte, highByte, next, back, signed}
-use Rattle.sm83.specs.Bus.{Operand}
+use Rattle.definition.specs.Bus.{Operand}
 use Rattle.sm83.specs.State.{pairAF, pairBC, pairDE, pairHL, writeA, writeSP, putBC, putDE, putHL, writeBC, writeDE, writeHL, writeAF}
-use Rattle.sm83.specs.Execution.{Does, _>>=_, _>>_, give, nothing, reg, setReg, regA, regC, regSP, regHL, load, store, imm8, imm16, high}
+use Rattle.definition.specs.Execution.{Does, _>>=_, _>>_, give, nothing, reg, setReg, regA, regC, regSP, regHL, load, store, imm8, imm16, high}
 
 -- `read_operand`; Addr16Val16 is never read
 unfoldable pub readOperand : {R : Type 0} → OperandType → Does R ℕ

@@ -8,9 +8,9 @@ use Rattle.sm83.specs.Basics.{lowByte}
 use Rattle.sm83.specs.State.{writeA, putBC, putDE, putHL, writeAF, writeBC, writeDE, writeHL, writeSP, onRegisters}
 use Rattle.instruction.specs.declared.operand.OperandType.{OperandType}
 use Rattle.instruction.specs.declared.operand.OperandType.the-variants as ot
-use Rattle.sm83.specs.Bus.{Ask, Operand}
-use Rattle.sm83.specs.Step.{Ended}
-use Rattle.sm83.specs.Execution.{store}
+use Rattle.definition.specs.Bus.{Ask, Operand}
+use Rattle.definition.specs.Step.{Ended}
+use Rattle.definition.specs.Execution.{store}
 use Rattle.memory.specs.declared.Port.{Port}
 use Rattle.memory.specs.World.{world, leads}
 use Rattle.accesses.specs.Leads.{Leads}

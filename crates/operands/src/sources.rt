@@ -2,7 +2,7 @@
 ghost use mathlib.Core.Path.{_≡_};
 ghost use lib.Dec.{T};
 ghost use lib.ListN.{length};
-ghost use Rattle.sm83.specs.Execution.{imm8};
+ghost use Rattle.definition.specs.Execution.{imm8};
 ghost use Rattle.instruction.specs.declared.operand.OperandType.the-variants.{AddrHLDec, AddrHLInc, Imm8Signed, HighAddr8, Addr16};
 ghost use Rattle.accesses.specs.Leads.{Leads};
 ghost use Rattle.mirror.specs.Operands.{readOperand};

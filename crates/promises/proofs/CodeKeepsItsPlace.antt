@@ -8,10 +8,10 @@ use Rattle.sm83.specs.declared.state.Cpu.{Cpu}
 use Rattle.sm83.specs.declared.outcome.LastOutcome.{LastOutcome}
 use Rattle.sm83.specs.declared.outcome.Verdict.{Verdict}
 use Rattle.sm83.specs.declared.outcome.Verdict.the-variants.{Passes}
-use Rattle.sm83.specs.Bus.{plain}
+use Rattle.definition.specs.Bus.{plain}
 use Rattle.sm83.specs.State.{pc}
-use Rattle.sm83.specs.Step.{stepOn}
-use Rattle.sm83.specs.Run.{RunAnswer, runFor}
+use Rattle.definition.specs.Step.{stepOn}
+use Rattle.definition.specs.Run.{RunAnswer, runFor}
 use Rattle.routine.specs.Screen.{isMarked, screen}
 use Rattle.routine.specs.Trace.{Quiet, isFine, isFineLast, SameWindow, stateAt, GoesOn, StaysToTheLast, StaysToTheEnd}
 use Rattle.routine.proofs.Before.{window}

@@ -7,9 +7,9 @@ use Rattle.sm83.specs.declared.state.Cpu.{Cpu}
 use Rattle.sm83.specs.declared.outcome.LastOutcome.{LastOutcome}
 use Rattle.sm83.specs.declared.outcome.LastOutcome.the-variants.{NothingRun, Last}
 use Rattle.sm83.specs.Basics.{if_then_else_}
-use Rattle.sm83.specs.Bus.{Bus, mcycles}
-use Rattle.sm83.specs.Step.{Admission, accepted, admission, stepOn}
-use Rattle.sm83.specs.Run.{stopsRun, RunAnswer, thenRest, repeated, admittedRun, runFor}
+use Rattle.definition.specs.Bus.{Bus, mcycles}
+use Rattle.definition.specs.Step.{Admission, accepted, admission, stepOn}
+use Rattle.definition.specs.Run.{stopsRun, RunAnswer, thenRest, repeated, admittedRun, runFor}
 use Rattle.routine.specs.Trace.{stateAt, stepAt, memoryAt}
 
 either-way : {W : Type 0} (P : RunAnswer W → Type 0) (test : Bool) (x y : RunAnswer W) → P x → P y → P (if test then x else y)

@@ -8,13 +8,13 @@ use Rattle.sm83.specs.declared.state.Cpu.{Cpu}
 use Rattle.sm83.specs.declared.state.HaltMode.the-variants.{NotHalting}
 use Rattle.sm83.specs.declared.outcome.Outcome.the-variants.{Normal}
 use Rattle.sm83.specs.Basics.{next}
-use Rattle.sm83.specs.Bus.{Ask, answer, read, write, idle, peek, writeAndTake}
+use Rattle.definition.specs.Bus.{Ask, answer, read, write, idle, peek, writeAndTake}
 use Rattle.sm83.specs.State.{pc, sp, flags, setPC, setSP, setF, onRegisters}
-use Rattle.sm83.specs.Instruction.{Reg8, rB, rC, rD, rE, rH, rL, [HL], rA, Reg16, rBC, rDE, rHL, rSP, Stacked, pBC, pDE, pHL, pAF, Pointer, [BC], [DE], [HL+], [HL-]}
-use Rattle.sm83.specs.Instruction.{Work, NOP, DI, LD-r8-r8, LD-r8-n8, LD-r16-n16, LD-[r16]-A, LD-A-[r16], LD-[n16]-A, LD-A-[n16], LDH-[n8]-A, LDH-A-[n8], LDH-[C]-A, LDH-A-[C], LD-[n16]-SP, LD-SP-HL, LD-HL-SP+e8, ADD-SP-e8, ALU-A-r8, ALU-A-n8, ACC, INC-r8, DEC-r8, INC-r16, DEC-r16, ADD-HL-r16, PUSH-r16, POP-r16, workOperands}
-use Rattle.sm83.specs.Instruction.{Prefixed, SHIFT-r8, BIT-u3-r8, RES-u3-r8, SET-u3-r8}
-use Rattle.sm83.specs.Execution.{get8, put8, put16, putStacked, moved, work, prefixed, executing}
-use Rattle.sm83.specs.Step.{Ended, ended}
+use Rattle.opcodes.specs.Instruction.{Reg8, rB, rC, rD, rE, rH, rL, [HL], rA, Reg16, rBC, rDE, rHL, rSP, Stacked, pBC, pDE, pHL, pAF, Pointer, [BC], [DE], [HL+], [HL-]}
+use Rattle.opcodes.specs.Instruction.{Work, NOP, DI, LD-r8-r8, LD-r8-n8, LD-r16-n16, LD-[r16]-A, LD-A-[r16], LD-[n16]-A, LD-A-[n16], LDH-[n8]-A, LDH-A-[n8], LDH-[C]-A, LDH-A-[C], LD-[n16]-SP, LD-SP-HL, LD-HL-SP+e8, ADD-SP-e8, ALU-A-r8, ALU-A-n8, ACC, INC-r8, DEC-r8, INC-r16, DEC-r16, ADD-HL-r16, PUSH-r16, POP-r16, workOperands}
+use Rattle.opcodes.specs.Instruction.{Prefixed, SHIFT-r8, BIT-u3-r8, RES-u3-r8, SET-u3-r8}
+use Rattle.definition.specs.Execution.{get8, put8, put16, putStacked, moved, work, prefixed, executing}
+use Rattle.definition.specs.Step.{Ended, ended}
 use Rattle.routine.specs.Trace.{isFine}
 use Rattle.routine.proofs.LowBits.{alu-low, acc-low, shift-low}
 

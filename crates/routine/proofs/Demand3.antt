@@ -8,7 +8,7 @@ use native.Mathlib.Omega.{arith}
 use lib.Dec.{T}
 use lib.ListN.{length}
 use Rattle.sm83.specs.declared.state.Cpu.{Cpu}
-use Rattle.sm83.specs.Bus.{Bus, plain}
+use Rattle.definition.specs.Bus.{Bus, plain}
 use Rattle.sm83.specs.State.{pc}
 use Rattle.routine.specs.Rules.{Start, Rules}
 use Rattle.routine.specs.Trace.{Quiet, Fine, SameWindow, stateAt, stepAt, Stays, GoesOn, memoryAt}

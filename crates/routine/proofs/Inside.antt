@@ -10,11 +10,11 @@ use Rattle.sm83.specs.declared.state.Cpu.{Cpu}
 use Rattle.sm83.specs.declared.state.HaltMode.the-variants.{NotHalting}
 use Rattle.sm83.specs.declared.outcome.Outcome.{Outcome}
 use Rattle.sm83.specs.Basics.{if_then_else_, next}
-use Rattle.sm83.specs.Bus.{Fetch, Ask, read, byteAt}
+use Rattle.definition.specs.Bus.{Fetch, Ask, read, byteAt}
 use Rattle.sm83.specs.State.{pc, flags, setPC, setIme, setLatch, setHalt}
-use Rattle.sm83.specs.Instruction.{decode, operands}
-use Rattle.sm83.specs.Execution.{Does, execute}
-use Rattle.sm83.specs.Step.{isAsleep, isBug, step, awake, instruction, fetched, Ended, ended, stepTree}
+use Rattle.opcodes.specs.Instruction.{decode, operands}
+use Rattle.definition.specs.Execution.{Does, execute}
+use Rattle.definition.specs.Step.{isAsleep, isBug, step, awake, instruction, fetched, Ended, ended, stepTree}
 use Rattle.routine.specs.Flow.{instructionAt, flowAt, past, endsRoutine, returns}
 use Rattle.routine.specs.Rules.{Start, at-first, after, Rules}
 use Rattle.routine.specs.Trace.{isFine}

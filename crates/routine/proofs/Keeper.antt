@@ -8,8 +8,8 @@ use native.Mathlib.Omega.{arith}
 use lib.Dec.{leb, ltb, T, T-not, le→leb, lt→ltb}
 use lib.ListN.{length-set}
 use lib.Seq.{getD-set-other}
-use Rattle.sm83.specs.Bus.{Kind, Ask, answer, read, write, idle, peek, writeAndTake, Access, Read, Write, Idle, WriteAndTake, Bus, Ran, runOn, plain}
-use Rattle.sm83.specs.Step.{Ended}
+use Rattle.definition.specs.Bus.{Kind, Ask, answer, read, write, idle, peek, writeAndTake, Access, Read, Write, Idle, WriteAndTake, Bus, Ran, runOn, plain}
+use Rattle.definition.specs.Step.{Ended}
 use Rattle.routine.specs.Trace.{takesNone, inWindow, spares, SameWindow}
 use Rattle.routine.proofs.Calm.{anything, Ends}
 

@@ -2,8 +2,8 @@
 use mathlib.Core.Path.{_≡_}
 use Prim.Native.Nat.{ℕ, _%_}
 use native.Mathlib.Omega.{arith}
-use Rattle.sm83.specs.Instruction.{Alu, ADD, ADC, SUB, SBC, AND, XOR, OR, CP, Acc, RLCA, RRCA, RLA, RRA, DAA, CPL, SCF, CCF, Shift, RLC, RRC, RL, RR, SLA, SRA, SWAP, SRL}
-use Rattle.sm83.specs.Arithmetic.{aluOp, accOp, shiftOp, daa}
+use Rattle.opcodes.specs.Instruction.{Alu, ADD, ADC, SUB, SBC, AND, XOR, OR, CP, Acc, RLCA, RRCA, RLA, RRA, DAA, CPL, SCF, CCF, Shift, RLC, RRC, RL, RR, SLA, SRA, SWAP, SRL}
+use Rattle.opcodes.specs.Arithmetic.{aluOp, accOp, shiftOp, daa}
 
 pub alu-low : (op : Alu) (a x f : ℕ) → aluOp op a x f .flags % 16 ≡ 0
 alu-low ADD a x f = omega arith

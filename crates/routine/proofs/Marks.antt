@@ -8,7 +8,7 @@ use native.Mathlib.Omega.{arith}
 use lib.Dec.{T, eqb, leb, leb→le, le→leb, eqb→eq}
 use lib.ListN.{getD, length}
 use mir.Facts.{and-yes, yes-and}
-use Rattle.sm83.specs.Instruction.{operands}
+use Rattle.opcodes.specs.Instruction.{operands}
 use Rattle.routine.specs.Flow.{instructionAt, past}
 use Rattle.routine.specs.Rules.{Start, at-first}
 use Rattle.routine.specs.Screen.{marksFrom, marksOf, isMarked}

@@ -9,13 +9,13 @@ use Rattle.sm83.specs.declared.state.Cpu.{Cpu}
 use Rattle.sm83.specs.declared.outcome.Outcome.{Outcome}
 use Rattle.sm83.specs.declared.outcome.Outcome.the-variants.{Normal, InfiniteLoop}
 use Rattle.sm83.specs.Basics.{if_then_else_, word, next, offset, signed}
-use Rattle.sm83.specs.Bus.{Ask, answer, read, write, idle, peek, writeAndTake}
+use Rattle.definition.specs.Bus.{Ask, answer, read, write, idle, peek, writeAndTake}
 use Rattle.sm83.specs.State.{pc, flags, setPC}
-use Rattle.sm83.specs.Arithmetic.{holds}
-use Rattle.sm83.specs.Instruction.{Jump, JP-n16, JP-HL, JR-e8, CALL-n16, RET, RETI, JP-cc-n16, JR-cc-e8, CALL-cc-n16, RET-cc, RST-vec}
-use Rattle.sm83.specs.Instruction.{Instruction, does, goes, CB-prefix, HALT, STOP, EI, LD-B-B, ILLEGAL, decodeCB, operands}
-use Rattle.sm83.specs.Execution.{Does, work, prefixed, jump, execute, executing}
-use Rattle.sm83.specs.Step.{Ended, ended}
+use Rattle.opcodes.specs.Arithmetic.{holds}
+use Rattle.opcodes.specs.Instruction.{Jump, JP-n16, JP-HL, JR-e8, CALL-n16, RET, RETI, JP-cc-n16, JR-cc-e8, CALL-cc-n16, RET-cc, RST-vec}
+use Rattle.opcodes.specs.Instruction.{Instruction, does, goes, CB-prefix, HALT, STOP, EI, LD-B-B, ILLEGAL, decodeCB, operands}
+use Rattle.definition.specs.Execution.{Does, work, prefixed, jump, execute, executing}
+use Rattle.definition.specs.Step.{Ended, ended}
 use Rattle.routine.specs.Flow.{Flow, GoesTo, GoesToOrNext, flowOf, isForbidden, endsRoutine, returns}
 use Rattle.routine.specs.Trace.{isFine}
 use Rattle.routine.proofs.Calm.{anything, Ends, Calm, skipped, LeftAt, done, prefixed-ends, work-ends}

@@ -10,9 +10,9 @@ use lib.Dec.{T, not-T, eqb}
 use lib.Ieee.Bits.{is-true}
 use mir.Facts.{T-not-not}
 use Rattle.sm83.specs.Basics.{if_then_else_, next}
-use Rattle.sm83.specs.Bus.{byteAt}
-use Rattle.sm83.specs.Arithmetic.{holds}
-use Rattle.sm83.specs.Instruction.{cNZ, cZ, cNC, cC, decode, lengthOf}
+use Rattle.definition.specs.Bus.{byteAt}
+use Rattle.opcodes.specs.Arithmetic.{holds}
+use Rattle.opcodes.specs.Instruction.{cNZ, cZ, cNC, cC, decode, lengthOf}
 use Rattle.routine.specs.Flow.{Flow, flowOf, flowAt, isForbidden, endsRoutine, jumpsWhere, returns}
 use Rattle.routine.specs.Rules.{JumpsTo}
 use Rattle.routine.proofs.Jumps.{target-passes, target-fails}

@@ -7,9 +7,9 @@ use lib.Dec.{T}
 use lib.ListN.{length}
 use Rattle.sm83.specs.declared.state.Cpu.{Cpu}
 use Rattle.sm83.specs.declared.outcome.LastOutcome.{LastOutcome}
-use Rattle.sm83.specs.Bus.{Bus, plain}
+use Rattle.definition.specs.Bus.{Bus, plain}
 use Rattle.sm83.specs.State.{pc}
-use Rattle.sm83.specs.Run.{runFor}
+use Rattle.definition.specs.Run.{runFor}
 use Rattle.routine.specs.Rules.{Start, Rules}
 use Rattle.routine.specs.Trace.{Quiet, Fine, isFineLast, stateAt, stepAt, memoryAt, StaysToTheLast, StaysToTheEnd}
 use Rattle.routine.proofs.Keeper.{plain-keeps}

@@ -9,7 +9,7 @@ use lib.Dec.{T}
 use Rattle.sm83.specs.declared.outcome.Refusal.the-variants.{ForbiddenOpcode, PastTheEnd}
 use Rattle.sm83.specs.declared.outcome.Verdict.{Verdict}
 use Rattle.sm83.specs.Basics.{if_then_else_}
-use Rattle.sm83.specs.Instruction.{operands}
+use Rattle.opcodes.specs.Instruction.{operands}
 use Rattle.routine.specs.Flow.{instructionAt, flowAt, past, isForbidden}
 use Rattle.routine.specs.Rules.{Start, at-first, after}
 use Rattle.routine.specs.Screen.{refusedAt, walk}

@@ -5,7 +5,7 @@ use Prim.Native.Nat.{ℕ}
 use lib.ListN.{length}
 use Rattle.sm83.specs.declared.outcome.Verdict.{Verdict}
 use Rattle.sm83.specs.declared.outcome.Verdict.the-variants.{Passes, Refused, RefusedAt}
-use Rattle.sm83.specs.Instruction.{decode}
+use Rattle.opcodes.specs.Instruction.{decode}
 use Rattle.sm83.specs.Numbers.{numberOf}
 use Rattle.routine.specs.Flow.{flowAt}
 use Rattle.routine.specs.Screen.{marksFrom, walk, scan, verdict, marksAfter}

@@ -3,10 +3,10 @@ use mathlib.Core.Bool.{Bool, true, false}
 use mathlib.Core.List.{List}
 use Prim.Native.Nat.{ℕ, _+_}
 use Rattle.sm83.specs.Basics.{word, offset, next}
-use Rattle.sm83.specs.Bus.{byteAt}
-use Rattle.sm83.specs.Arithmetic.{holds}
-use Rattle.sm83.specs.Instruction.{Jump, JP-n16, JP-HL, JR-e8, CALL-n16, RET, RETI, JP-cc-n16, JR-cc-e8, CALL-cc-n16, RET-cc, RST-vec}
-use Rattle.sm83.specs.Instruction.{Instruction, does, goes, CB-prefix, HALT, STOP, EI, LD-B-B, ILLEGAL, decode, operands}
+use Rattle.definition.specs.Bus.{byteAt}
+use Rattle.opcodes.specs.Arithmetic.{holds}
+use Rattle.opcodes.specs.Instruction.{Jump, JP-n16, JP-HL, JR-e8, CALL-n16, RET, RETI, JP-cc-n16, JR-cc-e8, CALL-cc-n16, RET-cc, RST-vec}
+use Rattle.opcodes.specs.Instruction.{Instruction, does, goes, CB-prefix, HALT, STOP, EI, LD-B-B, ILLEGAL, decode, operands}
 
 -- on to the next instruction; nowhere that the screen allows; back to the caller, or on; to an address, or on; into a routine, or on
 pub data Flow : Type 0 where

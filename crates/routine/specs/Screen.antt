@@ -10,7 +10,7 @@ use Rattle.sm83.specs.declared.outcome.Verdict.{Verdict}
 use Rattle.sm83.specs.declared.outcome.Verdict.the-variants.{Passes, Refused, RefusedAt}
 use Rattle.sm83.specs.Basics.{if_then_else_}
 use Rattle.sm83.specs.State.{addr}
-use Rattle.sm83.specs.Instruction.{operands}
+use Rattle.opcodes.specs.Instruction.{operands}
 use Rattle.routine.specs.Flow.{instructionAt, flowAt, past, isForbidden, endsRoutine, jumpsWhere}
 
 abbrev pub refusedAt : Refusal → ℕ → Verdict

@@ -10,11 +10,11 @@ use Rattle.sm83.specs.declared.outcome.Outcome.{Outcome}
 use Rattle.sm83.specs.declared.outcome.Outcome.the-variants.{Normal, InfiniteLoop, Halting, RunningHDMA, Stopped, RunningInterrupt, Breakpoint, Refused}
 use Rattle.sm83.specs.declared.outcome.LastOutcome.{LastOutcome}
 use Rattle.sm83.specs.declared.outcome.LastOutcome.the-variants.{NothingRun, Last}
-use Rattle.sm83.specs.Bus.{Bus, Ran, Access, Read, Write, Idle, WriteAndTake}
+use Rattle.definition.specs.Bus.{Bus, Ran, Access, Read, Write, Idle, WriteAndTake}
 use Rattle.sm83.specs.State.{pc, flags}
-use Rattle.sm83.specs.Instruction.{decode}
-use Rattle.sm83.specs.Step.{Ended, stepOn}
-use Rattle.sm83.specs.Run.{runFor}
+use Rattle.opcodes.specs.Instruction.{decode}
+use Rattle.definition.specs.Step.{Ended, stepOn}
+use Rattle.definition.specs.Run.{runFor}
 use Rattle.routine.specs.Flow.{returns}
 
 -- "the routine means every byte of the window"

@@ -11,10 +11,10 @@ use Rattle.sm83.specs.declared.outcome.Refusal.{Refusal}
 use Rattle.sm83.specs.declared.outcome.Refusal.the-variants.{MemoryLength, LowBitsOfF}
 use Rattle.sm83.specs.declared.outcome.LastOutcome.the-variants.{NothingRun, Last}
 use Rattle.sm83.specs.Basics.{if_then_else_}
-use Rattle.sm83.specs.Bus.{Ran, plain, mcycles}
+use Rattle.definition.specs.Bus.{Ran, plain, mcycles}
 use Rattle.sm83.specs.State.{flags}
-use Rattle.sm83.specs.Step.{Ended, Admission, accepted, refusedAs, admission, admitted, stepOn}
-use Rattle.sm83.specs.Run.{RunAnswer, stopsRun, thenRest, repeated, notRun, admittedRun, runFor}
+use Rattle.definition.specs.Step.{Ended, Admission, accepted, refusedAs, admission, admitted, stepOn}
+use Rattle.definition.specs.Run.{RunAnswer, stopsRun, thenRest, repeated, notRun, admittedRun, runFor}
 
 module _ (budget : ℕ) (s : Cpu) (m : List ℕ) where
   admits : (v : Admission) → admission plain s m ≡ v → admittedRun v plain budget s m ≡ runFor plain budget s m

@@ -5,8 +5,8 @@ use Prim.Native.Nat.{ℕ}
 use Rattle.sm83.specs.declared.addr.MCycles.{MCycles}
 use Rattle.sm83.specs.declared.state.Cpu.{Cpu}
 use Rattle.sm83.specs.declared.outcome.Outcome.{Outcome}
-use Rattle.sm83.specs.Bus.{plain}
-use Rattle.sm83.specs.Run.{RunAnswer, runFor}
+use Rattle.definition.specs.Bus.{plain}
+use Rattle.definition.specs.Run.{RunAnswer, runFor}
 use Rattle.run.specs.declared.Ran.{Ran}
 use Rattle.run.specs.declared.Stepped.{Stepped}
 use Rattle.run.specs.Answers.{answer, Answers}

@@ -10,14 +10,14 @@ use Rattle.sm83.specs.declared.outcome.Outcome.{Outcome}
 use Rattle.sm83.specs.declared.outcome.LastOutcome.{LastOutcome}
 use Rattle.sm83.specs.declared.outcome.LastOutcome.the-variants.{NothingRun, Last}
 use Rattle.sm83.specs.Basics.{if_then_else_}
-use Rattle.sm83.specs.Bus.{Ran, plain, mcycles, runOn}
+use Rattle.definition.specs.Bus.{Ran, plain, mcycles, runOn}
 use Rattle.sm83.specs.State.{flags}
-use Rattle.sm83.specs.Step.{Ended, ended, accepted, admission, step, stepTree, stepOn}
-use Rattle.sm83.specs.Run.{RunAnswer, stopsRun, thenRest, repeated}
-use Rattle.sm83.proofs.Choices.{if-so, if-not}
-use Rattle.sm83.proofs.StepRuns.{accepted-step}
-use Rattle.sm83.proofs.StepCycles.{accepted-one-to-eight}
-use Rattle.sm83.proofs.Ranges.{Bytes, InRange, plain-lawful, step-ranges, step-length}
+use Rattle.definition.specs.Step.{Ended, ended, accepted, admission, step, stepTree, stepOn}
+use Rattle.definition.specs.Run.{RunAnswer, stopsRun, thenRest, repeated}
+use Rattle.opcodes.proofs.Choices.{if-so, if-not}
+use Rattle.definition.proofs.StepRuns.{accepted-step}
+use Rattle.definition.proofs.StepCycles.{accepted-one-to-eight}
+use Rattle.definition.proofs.Ranges.{Bytes, InRange, plain-lawful, step-ranges, step-length}
 use Rattle.memory.specs.declared.Port.{Port}
 use Rattle.memory.specs.World.{Led, world, leads}
 use Rattle.memory.proofs.Counted.{same-value, same-bytes, counts}

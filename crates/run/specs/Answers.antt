@@ -7,9 +7,9 @@ use Rattle.sm83.specs.declared.outcome.Outcome.{Outcome}
 use Rattle.sm83.specs.declared.outcome.Outcome.the-variants.{Normal}
 use Rattle.sm83.specs.declared.outcome.LastOutcome.{LastOutcome}
 use Rattle.sm83.specs.declared.outcome.LastOutcome.the-variants.{NothingRun, Last}
-use Rattle.sm83.specs.Bus.{Ran, plain, mcycles}
-use Rattle.sm83.specs.Step.{Ended, stepOn}
-use Rattle.sm83.specs.Run.{RunAnswer}
+use Rattle.definition.specs.Bus.{Ran, plain, mcycles}
+use Rattle.definition.specs.Step.{Ended, stepOn}
+use Rattle.definition.specs.Run.{RunAnswer}
 use Rattle.run.specs.declared.Ran.{Ran as CodeRan}
 use Rattle.run.specs.declared.Stepped.{Stepped}
 

@@ -7,7 +7,7 @@ use native.Mathlib.Omega.{arith}
 use lib.Dec.{eqb}
 use lib.ListN.{length, take, drop, replicate, drop-of-length-le, length-drop}
 use lib.Seq.{take-length, length-take-le}
-use Rattle.sm83.specs.Bus.{byteAt}
+use Rattle.definition.specs.Bus.{byteAt}
 use Rattle.blocks.specs.Bytes.{wordAt}
 use Rattle.library.specs.Left.{Left, left, runBlocks, LeftByScreen, leftByScreen, screenBlocks}
 use Rattle.sample.specs.Bytes.{sameBytes, part, patched}

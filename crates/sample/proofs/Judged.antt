@@ -8,7 +8,7 @@ use lib.ListN.{length, drop, length-drop}
 use lib.Seq.{getD-drop}
 use borrow.Author.Tests.{eq-eqb, ne-eqb, le-leb, lt-leb}
 use Rattle.sm83.specs.Basics.{word}
-use Rattle.sm83.specs.Bus.{byteAt}
+use Rattle.definition.specs.Bus.{byteAt}
 use Rattle.blocks.specs.Bytes.{wordAt}
 use Rattle.sample.specs.Record.{kindOf, nameLength, memoryLength, listed, changed, asked, told, sameLeft, askedScreen, toldScreen, sameScreen}
 use Rattle.sample.specs.Replay.{runSize, windowSize, agreesRun, agreesWindow, agrees, frontSize}

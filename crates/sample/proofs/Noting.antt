@@ -7,7 +7,7 @@ use native.Mathlib.Omega.{arith}
 use lib.Dec.{eqb, ltb}
 use lib.ListN.{length}
 use borrow.Author.Tests.{eq-eqb, ne-eqb, lt-ltb, le-ltb}
-use Rattle.sm83.specs.Bus.{byteAt, pending, isInterrupt}
+use Rattle.definition.specs.Bus.{byteAt, pending, isInterrupt}
 use Rattle.blocks.specs.Bytes.{wordAt}
 use Rattle.sample.specs.Bytes.{part}
 use Rattle.sample.specs.Record.{kindOf, memoryLength, listed, memoryFrom}

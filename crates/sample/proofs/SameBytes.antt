@@ -7,7 +7,7 @@ use native.Mathlib.Omega.{arith}
 use lib.Dec.{eqb}
 use lib.ListN.{set}
 use borrow.Author.Tests.{eq-eqb, eqb-true}
-use Rattle.sm83.specs.Bus.{byteAt}
+use Rattle.definition.specs.Bus.{byteAt}
 use Rattle.blocks.specs.Bytes.{wordAt}
 use Rattle.sample.specs.Bytes.{sameBytes, patched}
 

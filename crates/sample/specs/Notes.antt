@@ -6,7 +6,7 @@ use Prim.Native.Nat.{ℕ, _+_, _*_, _%_, _^_}
 use lib.Dec.{eqb, leb, ltb}
 use lib.ListN.{length, getD, set}
 use Rattle.sm83.specs.Basics.{if_then_else_, next}
-use Rattle.sm83.specs.Bus.{byteAt, pending, isInterrupt}
+use Rattle.definition.specs.Bus.{byteAt, pending, isInterrupt}
 use Rattle.blocks.specs.Bytes.{wordAt}
 use Rattle.sample.specs.Bytes.{part}
 use Rattle.sample.specs.Record.{kindOf, memoryLength, listed, memoryFrom}

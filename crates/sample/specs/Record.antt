@@ -9,7 +9,7 @@ use Prim.Native.Nat.{ℕ, _+_, _*_}
 use lib.Dec.{eqb, leb}
 use lib.ListN.{length, replicate}
 use Rattle.sm83.specs.Basics.{if_then_else_}
-use Rattle.sm83.specs.Bus.{byteAt}
+use Rattle.definition.specs.Bus.{byteAt}
 use Rattle.blocks.specs.Bytes.{wordAt}
 use Rattle.library.specs.Left.{Left, left, runBlocks, LeftByScreen, leftByScreen, screenBlocks}
 use Rattle.sample.specs.Bytes.{sameBytes, part, patched}

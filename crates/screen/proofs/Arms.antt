@@ -11,7 +11,7 @@ use mir.Val.{hasKey}
 use mir.Facts.{T-not-not}
 use types.Run.{OneOf, miss}
 use Rattle.sm83.specs.Basics.{if_then_else_}
-use Rattle.sm83.proofs.Tested.{upto, agree}
+use Rattle.opcodes.proofs.Tested.{upto, agree}
 
 -- Rows of any kind: each takes some numbers and gives a value. If each gives the answer for the numbers that it takes, so does the row at an index.
 module _ {A B : Type 0} (takes : A → ℕ → Bool) (gives : A → B) (answer : ℕ → B) where

@@ -8,10 +8,10 @@ use lib.ListN.{length, getD}
 use types.Run.{OneOf}
 use denote.Enum.Declared.{tagOf}
 use Rattle.sm83.specs.Basics.{word, offset, next}
-use Rattle.sm83.specs.Bus.{byteAt}
-use Rattle.sm83.specs.Instruction.{Instruction, does, goes, CB-prefix, HALT, STOP, EI, LD-B-B, ILLEGAL}
-use Rattle.sm83.specs.Instruction.{Jump, JP-n16, JP-HL, JR-e8, CALL-n16, RET, RETI, JP-cc-n16, JR-cc-e8, CALL-cc-n16, RET-cc, RST-vec}
-use Rattle.sm83.proofs.Tested.{upto}
+use Rattle.definition.specs.Bus.{byteAt}
+use Rattle.opcodes.specs.Instruction.{Instruction, does, goes, CB-prefix, HALT, STOP, EI, LD-B-B, ILLEGAL}
+use Rattle.opcodes.specs.Instruction.{Jump, JP-n16, JP-HL, JR-e8, CALL-n16, RET, RETI, JP-cc-n16, JR-cc-e8, CALL-cc-n16, RET-cc, RST-vec}
+use Rattle.opcodes.proofs.Tested.{upto}
 use Rattle.routine.specs.Flow.{Flow, flowOf, flowOfJump, instructionAt, flowAt, jumpsWhere}
 use Rattle.screen.specs.declared.class.Class.{Class}
 use Rattle.screen.specs.declared.class.Class.the-variants.{Plain, Barred, Return, ReturnIf, Absolute, AbsoluteIf, Relative, RelativeIf, Call, CallIf}

@@ -14,7 +14,7 @@ use Rattle.sm83.specs.declared.outcome.Refusal.the-variants.{FallsThrough}
 use Rattle.sm83.specs.declared.outcome.Verdict.{Verdict}
 use Rattle.sm83.specs.declared.outcome.Verdict.the-variants.{Passes}
 use Rattle.sm83.specs.Basics.{if_then_else_}
-use Rattle.sm83.specs.Instruction.{operands}
+use Rattle.opcodes.specs.Instruction.{operands}
 use Rattle.routine.specs.Flow.{instructionAt, flowAt, isForbidden, endsRoutine}
 use Rattle.routine.specs.Screen.{refusedAt, walk, marksFrom, marksOf, isMarked, endsWell, scan}
 use Rattle.screen.specs.Parts.{fallsAt, fallsFrom}

@@ -9,7 +9,7 @@ use mir.Val.{hasKey}
 use mir.Facts.{yes-and}
 use types.Run.{OneOf, hit}
 use Rattle.sm83.specs.Basics.{if_then_else_}
-use Rattle.sm83.specs.Instruction.{decode}
+use Rattle.opcodes.specs.Instruction.{decode}
 use Rattle.screen.specs.declared.class.Class.the-variants.{Plain, Barred, Return, ReturnIf, Absolute, AbsoluteIf, Relative, RelativeIf, Call, CallIf}
 use Rattle.screen.specs.declared.class.Shape.{Shape}
 use Rattle.screen.specs.Class.{shaped, shapeOf}

@@ -10,7 +10,7 @@ use Rattle.sm83.specs.declared.outcome.Refusal.{Refusal}
 use Rattle.sm83.specs.declared.outcome.Refusal.the-variants.{ForbiddenOpcode, PastTheEnd}
 use Rattle.sm83.specs.declared.outcome.Verdict.{Verdict}
 use Rattle.sm83.specs.declared.outcome.Verdict.the-variants.{Passes, Refused, RefusedAt}
-use Rattle.sm83.specs.Instruction.{operands}
+use Rattle.opcodes.specs.Instruction.{operands}
 use Rattle.routine.specs.Flow.{instructionAt, flowAt, isForbidden}
 use Rattle.routine.specs.Screen.{refusedAt, walk, firstOf, marksFrom, marksOf}
 use Rattle.routine.proofs.Marks.{marks-length}

@@ -8,7 +8,7 @@ use lib.Dec.{eqb}
 use lib.ListN.{length, getD, List·getD-eq-default}
 use borrow.Author.Tests.{le-leb, lt-leb}
 use Rattle.sm83.specs.Basics.{word, signed, offset, next}
-use Rattle.sm83.specs.Bus.{byteAt}
+use Rattle.definition.specs.Bus.{byteAt}
 use Rattle.routine.specs.Screen.{isMarked}
 
 pub absolute-target : (m : List ℕ) (a low high : ℕ) → low ≡ byteAt m ((a + 1) % 65536) → high ≡ byteAt m ((a + 2) % 65536) → high * 256 + low ≡ word (byteAt m (next (next a))) (byteAt m (next a))

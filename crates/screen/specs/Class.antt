@@ -1,8 +1,8 @@
 -- The length and class of an instruction, and where control may go from one of a class.
 use Prim.Native.Nat.{ℕ, _+_}
 use Rattle.sm83.specs.Basics.{word, offset}
-use Rattle.sm83.specs.Instruction.{Jump, JP-n16, JP-HL, JR-e8, CALL-n16, RET, RETI, JP-cc-n16, JR-cc-e8, CALL-cc-n16, RET-cc, RST-vec}
-use Rattle.sm83.specs.Instruction.{Instruction, does, goes, CB-prefix, HALT, STOP, EI, LD-B-B, ILLEGAL, lengthOf}
+use Rattle.opcodes.specs.Instruction.{Jump, JP-n16, JP-HL, JR-e8, CALL-n16, RET, RETI, JP-cc-n16, JR-cc-e8, CALL-cc-n16, RET-cc, RST-vec}
+use Rattle.opcodes.specs.Instruction.{Instruction, does, goes, CB-prefix, HALT, STOP, EI, LD-B-B, ILLEGAL, lengthOf}
 use Rattle.routine.specs.Flow.{Flow, Next, Leaves, LeavesOrNext, GoesTo, GoesToOrNext, Calls, CallsOrNext}
 use Rattle.routine.specs.Flow as flow
 use Rattle.screen.specs.declared.class.Class.{Class}

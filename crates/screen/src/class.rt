@@ -1,7 +1,7 @@
 // Length and class of an opcode byte.
 ghost use mathlib.Core.Path.{_≡_};
 ghost use Prim.Native.Nat.{ℕ};
-ghost use Rattle.sm83.specs.Instruction.{decode};
+ghost use Rattle.opcodes.specs.Instruction.{decode};
 ghost use Rattle.routine.specs.Flow.{isForbidden, endsRoutine};
 ghost use Rattle.screen.specs.Class.{shapeOf, flowOfClass};
 

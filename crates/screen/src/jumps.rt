@@ -3,7 +3,7 @@ ghost use mathlib.Core.Path.{_≡_};
 ghost use Prim.Native.Nat.{_+_, _%_};
 ghost use lib.ListN.{length};
 ghost use Rattle.sm83.specs.Basics.{word, signed, offset, next};
-ghost use Rattle.sm83.specs.Bus.{byteAt};
+ghost use Rattle.definition.specs.Bus.{byteAt};
 ghost use Rattle.routine.specs.Screen.{isMarked, landsWell};
 ghost use Rattle.screen.specs.Parts.{Inside, straysFrom};
 use crate::class::Class;

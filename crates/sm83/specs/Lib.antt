@@ -1,12 +1,6 @@
--- THE DEFINITION, in reading order.
+-- The state and its names, in reading order.
 pub mod Basics
-pub mod Bus
+pub mod Flags
 pub mod State
 pub mod PowerOn
-pub mod Instruction
-pub mod Arithmetic
-pub mod Execution
-pub mod Step
-pub mod Published
 pub mod Numbers
-pub mod Run

@@ -1,7 +1,7 @@
 // The registers. The low four bits of F are always 0 in a state that a step accepts: writing AF drops them.
 ghost use mathlib.Core.Path.{_≡_};
 ghost use Rattle.sm83.specs.State.{pairAF, pairBC, pairDE, pairHL, writeAF, writeBC, writeDE, writeHL};
-ghost use Rattle.sm83.specs.Arithmetic.{flagZ, flagN, flagH, flagC};
+ghost use Rattle.sm83.specs.Flags.{flagZ, flagN, flagH, flagC};
 ghost use Rattle.sm83.specs.PowerOn.{registers-zero, registers-dmg, registers-cgb, registers-cgb-dmg};
 use crate::addr::Addr;
 

@@ -7,9 +7,9 @@ use native.Mathlib.Nat.{le-of-suc-le-suc, not-suc-le-zero, add-zero, zero-add, a
 use lib.Dec.{T, eqb, ltb, eqb→eq, ltb→lt, nltb→le}
 use lib.ListN.{getD, length, List·getD-eq-default}
 use Rattle.sm83.specs.Basics.{if_then_else_}
-use Rattle.sm83.specs.Bus.{Access, Ran, byteAt, mcycles}
-use Rattle.sm83.specs.Step.{Ended, stepOn}
-use Rattle.sm83.specs.Run.{RunAnswer}
+use Rattle.definition.specs.Bus.{Access, Ran, byteAt, mcycles}
+use Rattle.definition.specs.Step.{Ended, stepOn}
+use Rattle.definition.specs.Run.{RunAnswer}
 use Rattle.sm83.specs.Numbers.{outcomeNumber}
 use Rattle.vectors.specs.Sparse.{Sparse, look, shown, spreadFrom, spread}
 use Rattle.vectors.specs.Vector.{Vector, cpuIn, memoryBefore, memoryAfter, stepOf, places, sameAt, sameBytes, same, found, wanted, agrees, allAgree, ofCpu, shownBy, ofAccesses}

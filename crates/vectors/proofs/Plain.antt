@@ -11,9 +11,9 @@ use lib.Bits.{bitAnd}
 use Rattle.sm83.specs.declared.state.Cpu.{Cpu}
 use Rattle.sm83.specs.declared.outcome.Refusal.the-variants.{MemoryLength, LowBitsOfF}
 use Rattle.sm83.specs.Basics.{if_then_else_, cleared}
-use Rattle.sm83.specs.Bus.{Ask, answer, read, write, idle, peek, writeAndTake, Access, Read, Write, Idle, WriteAndTake, Ran, logged, runOn, lowest, isInterrupt, byteAt, pending, taken, plain}
+use Rattle.definition.specs.Bus.{Ask, answer, read, write, idle, peek, writeAndTake, Access, Read, Write, Idle, WriteAndTake, Ran, logged, runOn, lowest, isInterrupt, byteAt, pending, taken, plain}
 use Rattle.sm83.specs.State.{flags}
-use Rattle.sm83.specs.Step.{Ended, stepTree, Admission, accepted, refusedAs, admission, admitted, stepOn}
+use Rattle.definition.specs.Step.{Ended, stepTree, Admission, accepted, refusedAs, admission, admitted, stepOn}
 use Rattle.vectors.specs.Sparse.{Sparse, placed, look, shown, waiting, withoutWaiting, sparse}
 
 -- 65,536 bytes, and the sparse memory shows each of them

@@ -7,9 +7,9 @@ use Rattle.sm83.specs.declared.state.Cpu.{Cpu}
 use Rattle.sm83.specs.declared.outcome.LastOutcome.{LastOutcome}
 use Rattle.sm83.specs.declared.outcome.LastOutcome.the-variants.{NothingRun, Last}
 use Rattle.sm83.specs.Basics.{if_then_else_}
-use Rattle.sm83.specs.Bus.{Bus, Access, Ran, mcycles, plain}
-use Rattle.sm83.specs.Step.{Ended, Admission, accepted, refusedAs, admission, stepOn}
-use Rattle.sm83.specs.Run.{RunAnswer, stopsRun, thenRest, repeated, admittedRun, runFor}
+use Rattle.definition.specs.Bus.{Bus, Access, Ran, mcycles, plain}
+use Rattle.definition.specs.Step.{Ended, Admission, accepted, refusedAs, admission, stepOn}
+use Rattle.definition.specs.Run.{RunAnswer, stopsRun, thenRest, repeated, admittedRun, runFor}
 use Rattle.vectors.specs.Sparse.{Sparse, sparse}
 use Rattle.vectors.proofs.Plain.{Shows, Alike, step-alike, same-admission}
 

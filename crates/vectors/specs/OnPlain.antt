@@ -2,9 +2,9 @@
 use mathlib.Core.Path.{_≡_}
 use mathlib.Core.List.{List, [], _∷_}
 use Prim.Native.Nat.{ℕ}
-use Rattle.sm83.specs.Bus.{Ran, byteAt, plain}
-use Rattle.sm83.specs.Step.{Ended, stepOn}
-use Rattle.sm83.specs.Run.{RunAnswer, runFor}
+use Rattle.definition.specs.Bus.{Ran, byteAt, plain}
+use Rattle.definition.specs.Step.{Ended, stepOn}
+use Rattle.definition.specs.Run.{RunAnswer, runFor}
 use Rattle.vectors.specs.Sparse.{shown, spread}
 use Rattle.vectors.specs.Vector.{Vector, cpuIn, memoryBefore, memoryAfter, found, wanted}
 use Rattle.vectors.specs.RunVector.{RunVector, runBefore, runAfter, runFound, runWanted}

@@ -7,7 +7,7 @@ use Rattle.sm83.specs.declared.outcome.LastOutcome.{LastOutcome}
 use Rattle.sm83.specs.declared.outcome.LastOutcome.the-variants.{NothingRun, Last}
 use Rattle.sm83.specs.Basics.{if_then_else_}
 use Rattle.sm83.specs.Numbers.{outcomeNumber}
-use Rattle.sm83.specs.Run.{RunAnswer, repeated, runFor}
+use Rattle.definition.specs.Run.{RunAnswer, repeated, runFor}
 use Rattle.vectors.specs.Sparse.{Sparse, sparse}
 use Rattle.vectors.specs.Vector.{byteIn, cpuIn, memoryIn, ofCpu, ofRegisters, shownBy, same, sameBytes, comparing}
 

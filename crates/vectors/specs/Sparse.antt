@@ -5,7 +5,7 @@ use Prim.Native.Nat.{ℕ, zero, suc}
 use lib.Dec.{eqb, ltb}
 use lib.Bits.{bitAnd}
 use Rattle.sm83.specs.Basics.{if_then_else_, cleared}
-use Rattle.sm83.specs.Bus.{Bus, lowest, isInterrupt}
+use Rattle.definition.specs.Bus.{Bus, lowest, isInterrupt}
 
 pub record Placed : Type 0 where
   pub place : ℕ

@@ -2,8 +2,8 @@
 use mathlib.Core.List.{List, [], _∷_, _++_, map}
 use Prim.Native.Nat.{ℕ, zero, suc, _+_, _*_, _/_, _%_}
 use Rattle.sm83.specs.Basics.{offset}
-use Rattle.sm83.specs.Instruction.{DAA, alu, acc, shift}
-use Rattle.sm83.specs.Arithmetic.{Result, aluOp, accOp, shiftOp, increment, decrement, daa, wordSumFlags, offsetFlags}
+use Rattle.opcodes.specs.Instruction.{DAA, alu, acc, shift}
+use Rattle.opcodes.specs.Arithmetic.{Result, aluOp, accOp, shiftOp, increment, decrement, daa, wordSumFlags, offsetFlags}
 
 -- a number of a table: the value, and two digits for the flags
 abbrev pub resultIn : ℕ → Result

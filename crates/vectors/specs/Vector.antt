@@ -11,12 +11,12 @@ use Rattle.sm83.specs.declared.state.HaltMode.the-variants.{NotHalting, HaltRun
 use Rattle.sm83.specs.declared.outcome.Outcome.{Outcome}
 use Rattle.sm83.specs.declared.outcome.Outcome.the-variants.{Normal, InfiniteLoop, Halting, RunningHDMA, Stopped, RunningInterrupt, Breakpoint, Refused}
 use Rattle.sm83.specs.Basics.{if_then_else_, bit}
-use Rattle.sm83.specs.Bus.{Access, Read, Write, Idle, WriteAndTake, Ran, runOn, mcycles}
+use Rattle.definition.specs.Bus.{Access, Read, Write, Idle, WriteAndTake, Ran, runOn, mcycles}
 use Rattle.sm83.specs.State.{registersOf}
-use Rattle.sm83.specs.Arithmetic.{daa}
-use Rattle.sm83.specs.Instruction.{decode, decodeCB}
+use Rattle.opcodes.specs.Arithmetic.{daa}
+use Rattle.opcodes.specs.Instruction.{decode, decodeCB}
 use Rattle.sm83.specs.Numbers.{outcomeNumber}
-use Rattle.sm83.specs.Step.{Ended, stepOn, stepping}
+use Rattle.definition.specs.Step.{Ended, stepOn, stepping}
 use Rattle.vectors.specs.Sparse.{Placed, placed, Sparse, look, shown, withoutWaiting, sparse}
 
 -- before and after: two digits each for A F B C D E H L, four for SP and PC, two for the mode; after also has two for the outcome and two for the M-cycles.

@@ -2,7 +2,7 @@
 use mathlib.Core.Bool.{Bool, true, false}
 use Prim.Native.Nat.{ℕ, _-_}
 use lib.Dec.{ltb}
-use Rattle.sm83.specs.Instruction.{decode, lengthOf}
+use Rattle.opcodes.specs.Instruction.{decode, lengthOf}
 use Rattle.screen.specs.declared.class.Class.{Class}
 use Rattle.screen.specs.declared.class.Class.the-variants.{Plain, Barred, Return, ReturnIf, Absolute, AbsoluteIf, Relative, RelativeIf, Call, CallIf}
 use Rattle.screen.specs.Class.{classOf}

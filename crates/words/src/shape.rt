@@ -1,6 +1,6 @@
 // What the map shows of a byte: an instruction start, an operand byte or a jump's start.
 ghost use mathlib.Core.Path.{_≡_};
-ghost use Rattle.sm83.specs.Instruction.{decode, lengthOf};
+ghost use Rattle.opcodes.specs.Instruction.{decode, lengthOf};
 ghost use Rattle.words.specs.Cells.{jumpsOf, isJump, cellOf};
 use screen::class::Class;
 use screen::class::shape_of;

@@ -1,10 +1,10 @@
 -- Every starred row comes out as the document prints it: one proof over the table, by computing the definition.
 use mathlib.Core.Path.{_≡_, refl}
 use mathlib.Core.List.{List, map}
-use Rattle.sm83.specs.Bus.{runOn, pending, taken}
-use Rattle.sm83.specs.Instruction.{decode, decodeCB}
-use Rattle.sm83.specs.Arithmetic.{daa}
-use Rattle.sm83.specs.Step.{stepOn, stepping}
+use Rattle.definition.specs.Bus.{runOn, pending, taken}
+use Rattle.opcodes.specs.Instruction.{decode, decodeCB}
+use Rattle.opcodes.specs.Arithmetic.{daa}
+use Rattle.definition.specs.Step.{stepOn, stepping}
 use Rattle.routine.specs.Flow.{flowAt}
 use Rattle.routine.specs.Screen.{marksFrom, walk, scan, verdict, screen}
 use Rattle.worked.specs.Claim.{Row, written, stepsOf, foundOf, wantedOf}

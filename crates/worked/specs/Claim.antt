@@ -5,11 +5,11 @@ use Prim.Native.Nat.{ℕ, zero, suc, _+_}
 use lib.ListN.{set, replicate}
 use Rattle.sm83.specs.declared.state.Cpu.{Cpu}
 use Rattle.sm83.specs.Basics.{bit}
-use Rattle.sm83.specs.Bus.{Ran, plain, byteAt, mcycles}
+use Rattle.definition.specs.Bus.{Ran, plain, byteAt, mcycles}
 use Rattle.sm83.specs.State.{pairHL}
-use Rattle.sm83.specs.Arithmetic.{flagH, flagC}
+use Rattle.sm83.specs.Flags.{flagH, flagC}
 use Rattle.sm83.specs.Numbers.{outcomeNumber, verdictNumber}
-use Rattle.sm83.specs.Step.{Ended, stepOn}
+use Rattle.definition.specs.Step.{Ended, stepOn}
 use Rattle.routine.specs.Screen.{Screened, screen}
 
 -- what is looked at after a step: a register, a flag, IME, the EI latch, the outcome's number, M-cycles, or the byte at an address

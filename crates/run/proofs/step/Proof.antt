@@ -3,7 +3,7 @@ use borrow.Author.Needs.{needs}
 use mathlib.Core.Path.{ap, _∙_}
 use mathlib.Core.List.{List}
 use Prim.Native.Nat.{ℕ}
-use Rattle.sm83.specs.Run.{RunAnswer}
+use Rattle.definition.specs.Run.{RunAnswer}
 use Rattle.run.specs.Answers.{outcomeOf}
 use Rattle.run.proofs.Admitted.{once}
 use Rattle.run.proofs.step.Statement.{statement}

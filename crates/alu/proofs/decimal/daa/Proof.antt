@@ -1,6 +1,6 @@
 -- Shows DAA: what is added, or taken away after a subtraction, weighs as the definition says.
 use borrow.Author.Needs.{needs}
-use Rattle.sm83.specs.Arithmetic.{daa}
+use Rattle.opcodes.specs.Arithmetic.{daa}
 use Rattle.alu.proofs.decimal.daa.Statement.{statement}
 use Rattle.alu.proofs.decimal.daa.Tie as tie
 

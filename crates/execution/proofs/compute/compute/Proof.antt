@@ -1,7 +1,7 @@
 -- Shows each opcode: what its own part of the match answers.
 use borrow.Author.Needs.{needs}
 use mathlib.Core.Path.{refl}
-use Rattle.sm83.specs.Instruction.{ADD, ADC, SUB, SBC, AND, XOR, OR, RLCA, RRCA, RLA, RRA, DAA, CPL, SCF, CCF, RLC, RRC, RL, RR, SLA, SRA, SWAP, SRL}
+use Rattle.opcodes.specs.Instruction.{ADD, ADC, SUB, SBC, AND, XOR, OR, RLCA, RRCA, RLA, RRA, DAA, CPL, SCF, CCF, RLC, RRC, RL, RR, SLA, SRA, SWAP, SRL}
 use Rattle.execution.proofs.Computing.{adds-hl, adds-sp, breaks, by-acc, by-alu, by-shift, calls, clears, compares, copies, decrements, decs, disables, does-nothing, enables, halts, increments, incs, jumps, jumps-by, jumps-to-hl, loads-hl, loads-sp, pops, pushes, raises, refuses, restarts, returns, returns-enabling, stops, tests}
 use Rattle.execution.proofs.compute.compute.Statement.{statement}
 use Rattle.execution.proofs.compute.compute.Tie as tie

@@ -1,7 +1,7 @@
 -- Shows the table: 256 entries, one computed test.
 use mathlib.Core.Path.{refl}
-use Rattle.sm83.specs.Instruction.{decode}
-use Rattle.sm83.proofs.Tested.{agree}
+use Rattle.opcodes.specs.Instruction.{decode}
+use Rattle.opcodes.proofs.Tested.{agree}
 use Rattle.instruction.specs.Entry.{rowAt, Plain}
 use Rattle.instruction.proofs.instructions_table.instructions.Statement.{statement}
 use Rattle.instruction.proofs.instructions_table.instructions.Tie as tie

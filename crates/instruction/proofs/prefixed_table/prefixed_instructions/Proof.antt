@@ -1,7 +1,7 @@
 -- Shows the table after CB: 256 entries, one computed test.
 use mathlib.Core.Path.{refl}
-use Rattle.sm83.specs.Instruction.{decodeCB}
-use Rattle.sm83.proofs.Tested.{agree}
+use Rattle.opcodes.specs.Instruction.{decodeCB}
+use Rattle.opcodes.proofs.Tested.{agree}
 use Rattle.instruction.specs.Entry.{rowAt, Prefixed}
 use Rattle.instruction.proofs.prefixed_table.prefixed_instructions.Statement.{statement}
 use Rattle.instruction.proofs.prefixed_table.prefixed_instructions.Tie as tie

@@ -1,6 +1,6 @@
 -- Shows what peeking sees.
 use borrow.Author.Needs.{needs}
-use Rattle.sm83.specs.Bus.{pending}
+use Rattle.definition.specs.Bus.{pending}
 use Rattle.memory.proofs.interrupts.peek_next_interrupt.Statement.{statement}
 use Rattle.memory.proofs.interrupts.peek_next_interrupt.Tie as tie
 

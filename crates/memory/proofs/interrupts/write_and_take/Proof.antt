@@ -1,7 +1,7 @@
 -- Shows the push that takes: the write, then the take.
 use borrow.Author.Needs.{needs}
 use mathlib.Core.Path.{ap, _∙_}
-use Rattle.sm83.specs.Bus.{pending, taken}
+use Rattle.definition.specs.Bus.{pending, taken}
 use Rattle.memory.proofs.interrupts.write_and_take.Statement.{statement}
 use Rattle.memory.proofs.interrupts.write_and_take.Tie as tie
 

@@ -1,7 +1,7 @@
 -- Shows a byte to where the word at PC points: one access after another.
 use borrow.Author.Needs.{needs}
-use Rattle.sm83.specs.Bus.{Operand}
-use Rattle.sm83.specs.Execution.{imm16, store}
+use Rattle.definition.specs.Bus.{Operand}
+use Rattle.definition.specs.Execution.{imm16, store}
 use Rattle.mirror.specs.Operands.{writeOperand}
 use Rattle.accesses.proofs.Leading.{after}
 use Rattle.operands.proofs.destinations.write_at16.Statement.{statement}

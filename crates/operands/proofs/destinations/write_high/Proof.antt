@@ -1,7 +1,7 @@
 -- Shows a byte to page FF, where the byte at PC says: one access after another.
 use borrow.Author.Needs.{needs}
-use Rattle.sm83.specs.Bus.{Operand}
-use Rattle.sm83.specs.Execution.{imm8, store, high}
+use Rattle.definition.specs.Bus.{Operand}
+use Rattle.definition.specs.Execution.{imm8, store, high}
 use Rattle.mirror.specs.Operands.{writeOperand}
 use Rattle.accesses.proofs.Leading.{after, stored}
 use Rattle.operands.proofs.destinations.write_high.Statement.{statement}

@@ -1,7 +1,7 @@
 -- Shows the byte that the word at PC points at: one access after another.
 use borrow.Author.Needs.{needs}
-use Rattle.sm83.specs.Bus.{Operand}
-use Rattle.sm83.specs.Execution.{imm16, load}
+use Rattle.definition.specs.Bus.{Operand}
+use Rattle.definition.specs.Execution.{imm16, load}
 use Rattle.mirror.specs.Operands.{readOperand}
 use Rattle.accesses.proofs.Leading.{after}
 use Rattle.operands.proofs.sources.read_at16.Statement.{statement}

@@ -1,7 +1,7 @@
 -- Shows the byte of page FF that the byte at PC names: one access after another.
 use borrow.Author.Needs.{needs}
-use Rattle.sm83.specs.Bus.{Operand}
-use Rattle.sm83.specs.Execution.{imm8, load, high}
+use Rattle.definition.specs.Bus.{Operand}
+use Rattle.definition.specs.Execution.{imm8, load, high}
 use Rattle.mirror.specs.Operands.{readOperand}
 use Rattle.accesses.proofs.Leading.{after, along}
 use Rattle.operands.proofs.sources.read_high.Statement.{statement}

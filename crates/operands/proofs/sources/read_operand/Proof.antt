@@ -1,8 +1,8 @@
 -- Shows each operand: what its own part of the match answers.
 use borrow.Author.Needs.{needs}
 use mathlib.Core.Path.{refl}
-use Rattle.sm83.specs.Bus.{Operand}
-use Rattle.sm83.specs.Execution.{load}
+use Rattle.definition.specs.Bus.{Operand}
+use Rattle.definition.specs.Execution.{load}
 use Rattle.mirror.specs.Operands.{readOperand}
 use Rattle.accesses.proofs.Leading.{along, arm}
 use Rattle.operands.proofs.sources.read_operand.Statement.{statement}

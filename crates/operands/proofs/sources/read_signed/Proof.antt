@@ -1,7 +1,7 @@
 -- Shows the byte at PC, as a signed one.
 use borrow.Author.Needs.{needs}
 use mathlib.Core.Path.{refl}
-use Rattle.sm83.specs.Execution.{imm8, give}
+use Rattle.definition.specs.Execution.{imm8, give}
 use Rattle.sm83.specs.Basics.{signed}
 use Rattle.mirror.specs.Operands.{readOperand}
 use Rattle.accesses.proofs.Leading.{after, giving}

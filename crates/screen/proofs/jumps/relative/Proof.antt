@@ -2,7 +2,7 @@
 use mathlib.Core.Path.{ap, _∙_}
 use borrow.Author.Needs.{needs}
 use Rattle.sm83.specs.Basics.{signed, next}
-use Rattle.sm83.specs.Bus.{byteAt}
+use Rattle.definition.specs.Bus.{byteAt}
 use Rattle.screen.proofs.Targets.{relative-target}
 use Rattle.screen.proofs.jumps.relative.Statement.{statement}
 use Rattle.screen.proofs.jumps.relative.Tie as tie
