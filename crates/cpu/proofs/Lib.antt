@@ -1,4 +1,2 @@
--- One instruction, then the stages of a step.
+-- One instruction: its operand, what it does, where its result goes.
 pub mod Executing
-pub mod Fetching
-pub mod Stepping

@@ -5,20 +5,14 @@ ghost use lib.ListN.{length};
 ghost use Rattle.accesses.specs.Leads.{Leads};
 ghost use Rattle.mirror.specs.Mirror.{execRow};
 ghost use Rattle.mirror.specs.Runnable.{runnable};
+use destinations::write_operand;
 use execution::compute::compute;
 use instruction::instruction::Instruction;
 use memory::Port;
-use operands::destinations::write_operand;
-use operands::sources::read_operand;
 use sm83::addr::Addr;
-use sm83::outcome::Outcome;
 use sm83::state::Cpu;
-
-pub struct Executed {
-    pub cpu: Cpu,
-    pub port: Port,
-    pub outcome: Outcome,
-}
+use sources::read_operand;
+use stages::interrupts::Executed;
 
 // `at` is the address of the instruction; PC is past its first byte, or its first two after a prefix.
 pub fn exec_instruction(

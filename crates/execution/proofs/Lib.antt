@@ -1,5 +1,2 @@
 -- Laws over plain variables, each applied to what the callees of one function ensure.
-pub mod Ending
-pub mod OnWords
-pub mod Jumping
 pub mod Computing

@@ -1,6 +1,6 @@
 -- Shows points 4 to 7.
 use borrow.Author.Needs.{needs}
-use Rattle.cpu.proofs.Stepping.{awake-dispatches, awake-runs}
+use Rattle.stages.proofs.Stepping.{awake-dispatches, awake-runs}
 use Rattle.cpu.proofs.step.awake.Statement.{statement}
 use Rattle.cpu.proofs.step.awake.Tie as tie
 

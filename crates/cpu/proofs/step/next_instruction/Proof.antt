@@ -1,6 +1,6 @@
 -- Shows the step: points 1, 2 and 3, and then the rest.
 use borrow.Author.Needs.{needs}
-use Rattle.cpu.proofs.Stepping.{stops, transfers, sleeps-on, steps}
+use Rattle.stages.proofs.Stepping.{stops, transfers, sleeps-on, steps}
 use Rattle.cpu.proofs.step.next_instruction.Statement.{statement}
 use Rattle.cpu.proofs.step.next_instruction.Tie as tie
 

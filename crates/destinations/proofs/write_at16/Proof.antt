@@ -1,0 +1,15 @@
+-- Shows a byte to where the word at PC points: one access after another.
+use borrow.Author.Needs.{needs}
+use Rattle.definition.specs.Bus.{Operand}
+use Rattle.definition.specs.Execution.{imm16, store}
+use Rattle.mirror.specs.Operands.{writeOperand}
+use Rattle.accesses.proofs.Leading.{after}
+use Rattle.destinations.proofs.write_at16.Statement.{statement}
+use Rattle.destinations.proofs.write_at16.Tie as tie
+
+returns : tie.Need-returns
+unfolding writeOperand
+returns c = (after _ _ _ _ _ _ _ _ _ imm16 (λ a. store Operand a _) _ _ (c .before .before .before .before .before .before .before .before .fetch16 .ensures .0) (c .before .before .store .ensures .0), c .before .before .store .ensures .1)
+
+pub write-at16-spec : {M : Type 1} → statement M
+write-at16-spec = tie.close (tie.spec (λ c κs. search needs) (λ c. search needs) (λ c κs. search needs) (λ c. search needs) returns)

@@ -1,0 +1,4 @@
+-- Laws over plain variables, each applied to what the callees of one function ensure.
+pub mod Ending
+pub mod OnWords
+pub mod Jumping

@@ -1,0 +1,11 @@
+-- Shows LD HL,SP: the callees' answers, by one law.
+use borrow.Author.Needs.{needs}
+use Rattle.effects.proofs.OnWords.{offset-loaded}
+use Rattle.effects.proofs.words.ld_hl_sp.Statement.{statement}
+use Rattle.effects.proofs.words.ld_hl_sp.Tie as tie
+
+returns : tie.Need-returns
+returns c = (offset-loaded _ _ _ _ _ _ _ (c .before .before .before .idle .ensures .0) (c .before .before .before .idle .ensures .1) (c .add-offset .ensures), c .before .before .before .idle .ensures .2)
+
+pub ld-hl-sp-spec : {M : Type 1} → statement M
+ld-hl-sp-spec = tie.close (tie.spec (λ c κs. search needs) (λ c κs. search needs) (λ c. search needs) returns)

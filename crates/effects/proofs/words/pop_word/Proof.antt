@@ -1,0 +1,11 @@
+-- Shows POP: the callees' answers, by one law.
+use borrow.Author.Needs.{needs}
+use Rattle.effects.proofs.OnWords.{word-popped}
+use Rattle.effects.proofs.words.pop_word.Statement.{statement}
+use Rattle.effects.proofs.words.pop_word.Tie as tie
+
+returns : tie.Need-returns
+returns c = (word-popped _ _ _ _ _ _ _ _ (c .before .before .before .before .before .stack-pop .ensures .0) (c .plain .ensures), c .before .before .before .before .before .stack-pop .ensures .1)
+
+pub pop-word-spec : {M : Type 1} → statement M
+pop-word-spec = tie.close (tie.spec (λ c κs. search needs) (λ c κs. search needs) (λ c. search needs) returns)

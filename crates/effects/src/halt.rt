@@ -1,0 +1,46 @@
+// HALT.
+ghost use mathlib.Core.Path.{_≡_};
+ghost use lib.ListN.{length};
+ghost use Rattle.sm83.specs.State.{setHalt};
+ghost use Rattle.accesses.specs.Leads.{Leads};
+ghost use Rattle.mirror.specs.Mirror.{haltMade};
+ghost use Rattle.effects.specs.Worked.{madeBy};
+use crate::answers::Worked;
+use crate::results::plain;
+use memory::Port;
+use memory::interrupts::peek_next_interrupt;
+use sm83::state::Cpu;
+use sm83::state::HaltMode;
+
+pub fn with_halt(cpu: Cpu, halt: HaltMode) -> Cpu
+    ensures { λ r. ⌜ r ≡ setHalt halt cpu ⌝ }
+{
+    let regs = cpu.registers;
+    Cpu {
+        registers: regs,
+        ime: cpu.ime,
+        latch: cpu.latch,
+        halt: halt,
+        stopped: cpu.stopped,
+        hdma: cpu.hdma,
+        dmg: cpu.dmg,
+    }
+}
+
+pub fn halt(cpu: Cpu, port: Port, mem: &mut [u8]) -> Worked
+    requires { ⌜ length (now mem) ≡ 65536 ⌝ }
+    ensures { λ r. ⌜ Leads haltMade cpu port (now (mem .entry)) (madeBy r) (r .cpu) (r .port) (now (mem .exit)) × (length (now (mem .exit)) ≡ 65536) ⌝ }
+{
+    let ime = cpu.ime;
+    if ime {
+        plain(with_halt(cpu, HaltMode::HaltRunInterrupt), port, 0)
+    } else {
+        let interrupt = peek_next_interrupt(mem);
+        let some = interrupt < 5;
+        if some {
+            plain(with_halt(cpu, HaltMode::HaltBug), port, 0)
+        } else {
+            plain(with_halt(cpu, HaltMode::HaltNoRunInterrupt), port, 0)
+        }
+    }
+}

@@ -1,0 +1,28 @@
+// Refusal 3.
+ghost use mathlib.Core.Path.{_≡_};
+ghost use Rattle.sm83.specs.declared.outcome.Outcome.the-variants.{Refused};
+ghost use Rattle.sm83.specs.declared.outcome.Refusal.the-variants.{IllegalOpcode};
+ghost use Rattle.sm83.specs.State.{setPC};
+ghost use Rattle.effects.specs.Worked.{worked};
+use crate::answers::Worked;
+use accesses::answers::with_registers;
+use memory::Port;
+use sm83::addr::Addr;
+use sm83::outcome::Outcome;
+use sm83::outcome::Refusal;
+use sm83::state::Cpu;
+
+// PC as before the fetch. What points 3 and 5 did stays, and so does the end of HaltBug.
+pub fn illegal(cpu: Cpu, port: Port, at: Addr) -> Worked
+    ensures { λ r. ⌜ r ≡ worked (setPC (at .0) cpu) port 0 (Refused IllegalOpcode) ⌝ }
+{
+    let mut regs = cpu.registers;
+    regs.pc = at;
+    let s = with_registers(cpu, regs);
+    Worked {
+        cpu: s,
+        port: port,
+        value: 0,
+        outcome: Outcome::Refused(Refusal::IllegalOpcode),
+    }
+}

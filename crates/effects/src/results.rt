@@ -1,0 +1,47 @@
+// What comes of an operation: a value to be written, with flags or with none, or A and F at once.
+ghost use mathlib.Core.Path.{_≡_};
+ghost use Rattle.sm83.specs.declared.outcome.Outcome.the-variants.{Normal};
+ghost use Rattle.sm83.specs.State.{onRegisters, writeA, writeF};
+ghost use Rattle.effects.specs.Worked.{worked};
+use crate::answers::Worked;
+use accesses::answers::with_registers;
+use flags::Computed;
+use memory::Port;
+use sm83::outcome::Outcome;
+use sm83::state::Cpu;
+
+pub fn plain(cpu: Cpu, port: Port, value: u16) -> Worked
+    ensures { λ r. ⌜ r ≡ worked cpu port value Normal ⌝ }
+{
+    Worked {
+        cpu: cpu,
+        port: port,
+        value: value,
+        outcome: Outcome::Normal,
+    }
+}
+
+pub fn with_flags(cpu: Cpu, port: Port, flags: u8, value: u16) -> Worked
+    ensures { λ r. ⌜ r ≡ worked (onRegisters (writeF flags) cpu) port value Normal ⌝ }
+{
+    let mut regs = cpu.registers;
+    regs.f = flags;
+    let s = with_registers(cpu, regs);
+    plain(s, port, value)
+}
+
+pub fn with_result(cpu: Cpu, port: Port, x: Computed) -> Worked
+    ensures { λ r. ⌜ r ≡ worked (onRegisters (writeF (x .flags)) cpu) port (x .value) Normal ⌝ }
+{
+    with_flags(cpu, port, x.flags, x.value as u16)
+}
+
+pub fn with_a(cpu: Cpu, port: Port, x: Computed) -> Worked
+    ensures { λ r. ⌜ r ≡ worked (onRegisters (λ q. writeF (x .flags) (writeA (x .value) q)) cpu) port 0 Normal ⌝ }
+{
+    let mut regs = cpu.registers;
+    regs.a = x.value;
+    regs.f = x.flags;
+    let s = with_registers(cpu, regs);
+    plain(s, port, 0)
+}

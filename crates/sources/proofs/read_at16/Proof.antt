@@ -1,0 +1,15 @@
+-- Shows the byte that the word at PC points at: one access after another.
+use borrow.Author.Needs.{needs}
+use Rattle.definition.specs.Bus.{Operand}
+use Rattle.definition.specs.Execution.{imm16, load}
+use Rattle.mirror.specs.Operands.{readOperand}
+use Rattle.accesses.proofs.Leading.{after}
+use Rattle.sources.proofs.read_at16.Statement.{statement}
+use Rattle.sources.proofs.read_at16.Tie as tie
+
+returns : tie.Need-returns
+unfolding readOperand
+returns c = (after _ _ _ _ _ _ _ _ _ imm16 (load Operand) _ _ (c .before .before .before .before .before .before .before .before .fetch16 .ensures .0) (c .before .before .load .ensures .0), c .before .before .load .ensures .1)
+
+pub read-at16-spec : {M : Type 1} → statement M
+read-at16-spec = tie.close (tie.spec (λ c κs. search needs) (λ c κs. search needs) (λ c. search needs) returns)

@@ -1,0 +1,10 @@
+-- Shows the byte at PC, as a word.
+use borrow.Author.Needs.{needs}
+use Rattle.sources.proofs.read_imm8.Statement.{statement}
+use Rattle.sources.proofs.read_imm8.Tie as tie
+
+returns : tie.Need-returns
+returns c = c .before .before .before .before .before .fetch-next-pc .ensures
+
+pub read-imm8-spec : {M : Type 1} → statement M
+read-imm8-spec = tie.close (tie.spec (λ c κs. search needs) (λ c. search needs) (λ c. search needs) returns)

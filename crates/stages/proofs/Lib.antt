@@ -1,0 +1,3 @@
+-- The stages of a step, by the points of 01.
+pub mod Fetching
+pub mod Stepping

@@ -1,0 +1,98 @@
+// Point 3: a halt that goes on, one that ends, or none.
+ghost use mathlib.Core.Path.{_≡_};
+ghost use lib.ListN.{length};
+ghost use Rattle.sm83.specs.State.{setHalt};
+ghost use Rattle.sm83.specs.declared.state.HaltMode.the-variants.{NotHalting};
+ghost use Rattle.definition.specs.Step.{isBug, isAsleep};
+ghost use Rattle.stages.specs.Stages.{Wakes};
+use memory::Port;
+use memory::interrupts::peek_next_interrupt;
+use sm83::state::Cpu;
+use sm83::state::HaltMode;
+
+pub struct Woken {
+    pub cpu: Cpu,
+    pub port: Port,
+    pub halting: bool,
+}
+
+pub fn not_halting(cpu: Cpu) -> Cpu
+    ensures { λ r. ⌜ r ≡ setHalt NotHalting cpu ⌝ }
+{
+    let regs = cpu.registers;
+    Cpu {
+        registers: regs,
+        ime: cpu.ime,
+        latch: cpu.latch,
+        halt: HaltMode::NotHalting,
+        stopped: cpu.stopped,
+        hdma: cpu.hdma,
+        dmg: cpu.dmg,
+    }
+}
+
+pub fn is_bug(halt: HaltMode) -> bool
+    ensures { λ r. ⌜ r ≡ isBug halt ⌝ }
+{
+    match halt {
+        HaltMode::NotHalting => false,
+        HaltMode::HaltRunInterrupt => false,
+        HaltMode::HaltNoRunInterrupt => false,
+        HaltMode::HaltBug => true,
+    }
+}
+
+pub fn is_asleep(halt: HaltMode) -> bool
+    ensures { λ r. ⌜ r ≡ isAsleep halt ⌝ }
+{
+    match halt {
+        HaltMode::NotHalting => false,
+        HaltMode::HaltRunInterrupt => true,
+        HaltMode::HaltNoRunInterrupt => true,
+        HaltMode::HaltBug => false,
+    }
+}
+
+// 3. A halt that goes on, one that ends, or none.
+pub fn wake(cpu: Cpu, port: Port, mem: &mut [u8]) -> Woken
+    requires { ⌜ length (now mem) ≡ 65536 ⌝ }
+    ensures { λ r. ⌜ Wakes cpu port (now (mem .entry)) (r .halting) (r .cpu) (r .port) (now (mem .exit)) × (length (now (mem .exit)) ≡ 65536) ⌝ }
+{
+    let halt = cpu.halt;
+    let asleep = is_asleep(halt);
+    if asleep {
+        let p = memory::idle(port, mem);
+        let interrupt = peek_next_interrupt(mem);
+        let some = interrupt < 5;
+        if some {
+            let s = not_halting(cpu);
+            let dmg = cpu.dmg;
+            if dmg {
+                Woken {
+                    cpu: s,
+                    port: p,
+                    halting: false,
+                }
+            } else {
+                let q = memory::idle(p, mem);
+                Woken {
+                    cpu: s,
+                    port: q,
+                    halting: false,
+                }
+            }
+        } else {
+            Woken {
+                cpu: cpu,
+                port: p,
+                halting: true,
+            }
+        }
+    } else {
+        Woken {
+            cpu: cpu,
+            port: port,
+            halting: false,
+        }
+    }
+}

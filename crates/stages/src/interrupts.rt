@@ -1,0 +1,76 @@
+// Point 4: an interrupt is taken.
+ghost use mathlib.Core.Bool.{_&&_};
+ghost use mathlib.Core.Path.{_≡_};
+ghost use lib.ListN.{length};
+ghost use Rattle.definition.specs.Bus.{isInterrupt, pending};
+ghost use Rattle.definition.specs.Step.{dispatch};
+ghost use Rattle.accesses.specs.Leads.{Leads};
+ghost use Rattle.stages.specs.Stages.{dispatched};
+use memory::Port;
+use memory::interrupts::peek_next_interrupt;
+use memory::interrupts::vector;
+use memory::interrupts::write_and_take;
+use sm83::addr::Addr;
+use sm83::outcome::Outcome;
+use sm83::state::Cpu;
+
+pub struct Executed {
+    pub cpu: Cpu,
+    pub port: Port,
+    pub outcome: Outcome,
+}
+
+// Which interrupt runs, or that it was cancelled.
+pub fn running(interrupt: u8) -> Outcome
+    ensures { λ r. ⌜ r ≡ dispatched interrupt ⌝ }
+{
+    let some = interrupt < 5;
+    if some {
+        Outcome::RunningInterrupt(interrupt)
+    } else {
+        Outcome::Normal
+    }
+}
+
+// 4. PC is pushed, and the interrupt is taken between its two bytes.
+pub fn dispatch(cpu: Cpu, port: Port, mem: &mut [u8]) -> Executed
+    requires { ⌜ length (now mem) ≡ 65536 ⌝ }
+    ensures { λ r. ⌜ Leads dispatch cpu port (now (mem .entry)) (r .outcome) (r .cpu) (r .port) (now (mem .exit)) × (length (now (mem .exit)) ≡ 65536) ⌝ }
+{
+    let mut regs = cpu.registers;
+    let pc = regs.pc;
+    let sp = regs.sp;
+    let first = sp.wrapping_sub(1);
+    let got = write_and_take(port, mem, first, (pc.0 / 256) as u8);
+    let interrupt = got.value;
+    let p = got.port;
+    let second = first.wrapping_sub(1);
+    let q = memory::write(p, mem, second, (pc.0 % 256) as u8);
+    let t = memory::idle(q, mem);
+    let u = memory::idle(t, mem);
+    let v = memory::idle(u, mem);
+    let to = Addr(vector(interrupt));
+    regs.sp = second;
+    regs.pc = to;
+    let mut s = cpu;
+    s.registers = regs;
+    s.ime = false;
+    Executed {
+        cpu: s,
+        port: v,
+        outcome: running(interrupt),
+    }
+}
+
+// IME set and an interrupt pending.
+pub fn is_called(ime: bool, mem: &mut [u8]) -> bool
+    requires { ⌜ length (now mem) ≡ 65536 ⌝ }
+    ensures { λ r. ⌜ (r ≡ (ime && isInterrupt (pending (now (mem .entry))))) × (now (mem .exit) ≡ now (mem .entry)) × (length (now (mem .exit)) ≡ 65536) ⌝ }
+{
+    if ime {
+        let interrupt = peek_next_interrupt(mem);
+        interrupt < 5
+    } else {
+        false
+    }
+}
