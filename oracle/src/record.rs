@@ -1,4 +1,4 @@
-//! A record of the stored sample, in the layout of crates/sample/specs/Record.antt.
+//! A record of the stored sample, in the layout of crates/records/specs/Record.antt.
 use crate::{Registers, State};
 
 fn registers(r: &Registers) -> [u8; 12] {

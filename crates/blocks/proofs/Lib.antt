@@ -3,11 +3,9 @@
 -- what a run of stores leaves
 pub mod Filled
 pub mod Stores
-pub mod Answered
 -- written and read back, read and written back
 pub mod Coded
 pub mod WellFormed
 pub mod StateThere
 pub mod StateBack
 pub mod Reserved
-pub mod Answers

@@ -1,5 +1,3 @@
 -- The layouts of the blocks, by their offsets.
 pub mod Bytes
 pub mod StateBlock
-pub mod AnswerBlock
-pub mod ScreenBlock

@@ -1,5 +1,3 @@
-// The processor's state, and a step's, a run's and a screen's answer, as blocks of bytes with fixed offsets, on lent slices. Layouts: specs/.
-pub mod answer;
+// The processor's state as a block of bytes with fixed offsets, on lent slices. Layouts: specs/.
 pub mod bytes;
-pub mod screen;
 pub mod state;

@@ -13,13 +13,13 @@ use Rattle.definition.specs.Bus.{plain}
 use Rattle.sm83.specs.Numbers.{lastNumber, verdictNumber}
 use Rattle.definition.specs.Run.{RunAnswer, runFor}
 use Rattle.routine.specs.Screen.{screen}
-use Rattle.run.specs.declared.Ran.{Ran}
-use Rattle.run.specs.Answers.{answer}
+use Rattle.repeat.specs.declared.Ran.{Ran}
+use Rattle.repeat.specs.Ran.{answer}
 use Rattle.blocks.specs.declared.state.StateRead.{StateRead}
 use Rattle.blocks.specs.declared.state.StateRead.the-variants.{State, Malformed}
 use Rattle.blocks.specs.StateBlock.{stateOf, stateBytes}
-use Rattle.blocks.specs.AnswerBlock.{answerBytes}
-use Rattle.blocks.specs.ScreenBlock.{verdictBytes}
+use Rattle.answers.specs.AnswerBlock.{answerBytes}
+use Rattle.answers.specs.ScreenBlock.{verdictBytes}
 use Rattle.library.specs.Left.{malformed, Left, left, written, runFrom, runBlocks, LeftByScreen, leftByScreen, screenBlocks}
 
 module _ (budget : ℕ) (state memory block : List ℕ) where

@@ -14,8 +14,8 @@ use Rattle.routine.specs.Screen.{Screened, screen}
 use Rattle.blocks.specs.declared.state.StateRead.{StateRead}
 use Rattle.blocks.specs.declared.state.StateRead.the-variants.{State, Malformed}
 use Rattle.blocks.specs.StateBlock.{stateOf, stateBytes}
-use Rattle.blocks.specs.AnswerBlock.{answerBytes}
-use Rattle.blocks.specs.ScreenBlock.{verdictBytes}
+use Rattle.answers.specs.AnswerBlock.{answerBytes}
+use Rattle.answers.specs.ScreenBlock.{verdictBytes}
 
 -- no refusal of the document and no outcome has this number
 abbrev pub malformed : ℕ

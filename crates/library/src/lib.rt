@@ -2,8 +2,8 @@
 // Each answers the document's number, or 255 if a block is malformed; then nothing is changed.
 ghost use mathlib.Core.Path.{_≡_};
 ghost use Rattle.library.specs.Left.{left, leftByScreen, runBlocks, screenBlocks};
-use blocks::answer::write_answer;
-use blocks::screen::write_verdict;
+use answers::answer::write_answer;
+use answers::screen::write_verdict;
 use blocks::state::StateRead;
 use blocks::state::read_state;
 use blocks::state::write_state;

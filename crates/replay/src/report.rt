@@ -2,10 +2,10 @@
 ghost use Prim.Native.Nat.{_+_, _≤_};
 ghost use lib.ListN.{length};
 use libc::STDOUT_FILENO;
-use sample::notes::HALTS;
-use sample::notes::KINDS;
-use sample::notes::OUTCOMES;
-use sample::notes::VERDICTS;
+use records::notes::HALTS;
+use records::notes::KINDS;
+use records::notes::OUTCOMES;
+use records::notes::VERDICTS;
 
 fn long(n: u32) -> u64 {
     n as u64

@@ -7,9 +7,10 @@ use Rattle.sm83.specs.declared.state.Cpu.{Cpu}
 use Rattle.sm83.specs.declared.outcome.Outcome.{Outcome}
 use Rattle.definition.specs.Bus.{plain}
 use Rattle.definition.specs.Run.{RunAnswer, runFor}
-use Rattle.run.specs.declared.Ran.{Ran}
+use Rattle.repeat.specs.declared.Ran.{Ran}
 use Rattle.run.specs.declared.Stepped.{Stepped}
-use Rattle.run.specs.Answers.{answer, Answers}
+use Rattle.repeat.specs.Ran.{answer}
+use Rattle.run.specs.Answers.{Answers}
 
 -- the code's answer again, from the definition's
 abbrev ranOf : RunAnswer (List ℕ) → Ran

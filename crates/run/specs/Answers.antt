@@ -1,4 +1,4 @@
--- The code's answers with the memory that they leave, as the definition's: the outcome, the state, every byte, the steps and the M-cycles in one equation.
+-- What pins the answer of a step: its outcome and state, every byte and the M-cycles.
 use mathlib.Core.Path.{_≡_}
 use mathlib.Core.List.{List}
 use Prim.Native.Nat.{ℕ}
@@ -9,12 +9,7 @@ use Rattle.sm83.specs.declared.outcome.LastOutcome.{LastOutcome}
 use Rattle.sm83.specs.declared.outcome.LastOutcome.the-variants.{NothingRun, Last}
 use Rattle.definition.specs.Bus.{Ran, plain, mcycles}
 use Rattle.definition.specs.Step.{Ended, stepOn}
-use Rattle.definition.specs.Run.{RunAnswer}
-use Rattle.run.specs.declared.Ran.{Ran as CodeRan}
 use Rattle.run.specs.declared.Stepped.{Stepped}
-
-abbrev pub answer : CodeRan → List ℕ → RunAnswer (List ℕ)
-answer r m = record { last = r .last; cpu = r .cpu; memory = m; steps = r .steps; cycles = r .cycles .0 }
 
 -- the outcome of a run of one step; such a run is never one of which nothing is run
 abbrev pub outcomeOf : LastOutcome → Outcome

@@ -10,8 +10,9 @@ use lib.Seq.{take-length, length-take-le}
 use Rattle.definition.specs.Bus.{byteAt}
 use Rattle.blocks.specs.Bytes.{wordAt}
 use Rattle.library.specs.Left.{Left, left, runBlocks, LeftByScreen, leftByScreen, screenBlocks}
-use Rattle.sample.specs.Bytes.{sameBytes, part, patched}
-use Rattle.sample.specs.Record.{kindOf, listed, changed, memoryFrom, budgetOf, asked, told, sameLeft, askedScreen, toldScreen, sameScreen}
+use Rattle.records.specs.Bytes.{sameBytes, part, patched}
+use Rattle.records.specs.Record.{kindOf, listed, changed, memoryFrom}
+use Rattle.sample.specs.Told.{budgetOf, asked, told, sameLeft, askedScreen, toldScreen, sameScreen}
 
 length-part : (s : List ℕ) (from to : ℕ) → from ≤ to → to ≤ length s → length (part s from to) ≡ to - from
 length-part s from to low high = length-take-le (to - from) (drop from s) (omega (arith, length-drop from s))

@@ -10,7 +10,7 @@ use lib.Seq.{drop-drop}
 use borrow.Author.Tests.{eq-eqb, ne-eqb, le-leb, lt-leb}
 use Rattle.sm83.specs.Basics.{bit}
 use Rattle.blocks.specs.Bytes.{wordAt}
-use Rattle.sample.specs.Bytes.{part}
+use Rattle.records.specs.Bytes.{part}
 use Rattle.sample.specs.Replay.{agrees, frontSize, differing, differs}
 
 pub too-short : (s : List ℕ) → length s < 2 → 1 ≡ differs s

@@ -10,11 +10,10 @@ use borrow.Author.Tests.{eq-eqb, ne-eqb, le-leb, lt-leb}
 use Rattle.sm83.specs.Basics.{word}
 use Rattle.definition.specs.Bus.{byteAt}
 use Rattle.blocks.specs.Bytes.{wordAt}
-use Rattle.sample.specs.Record.{kindOf, nameLength, memoryLength, listed, changed, asked, told, sameLeft, askedScreen, toldScreen, sameScreen}
+use Rattle.records.specs.Record.{kindOf, nameLength, memoryLength, listed, changed}
+use Rattle.sample.specs.Told.{asked, told, sameLeft, askedScreen, toldScreen, sameScreen}
+use Rattle.records.proofs.Within.{within}
 use Rattle.sample.specs.Replay.{runSize, windowSize, agreesRun, agreesWindow, agrees, frontSize}
-
-pub within : {n k m : ℕ} → n ≡ k → k ≤ m → n ≤ m
-within e h = omega arith
 
 within-right : {n k m : ℕ} → n ≤ k → k ≡ m → n ≤ m
 within-right h e = omega arith

@@ -8,10 +8,11 @@ use lib.ListN.{length}
 use borrow.Author.Tests.{eqb-true}
 use Rattle.sm83.specs.Basics.{if_then_else_}
 use Rattle.library.specs.Left.{Left, left, LeftByScreen, leftByScreen}
-use Rattle.sample.specs.Bytes.{sameBytes}
-use Rattle.sample.specs.Record.{memoryLength, asked, told, sameLeft, askedScreen, toldScreen, sameScreen}
+use Rattle.records.specs.Bytes.{sameBytes}
+use Rattle.records.specs.Record.{memoryLength}
+use Rattle.sample.specs.Told.{asked, told, sameLeft, askedScreen, toldScreen, sameScreen}
 use Rattle.sample.specs.Replay.{runSize, windowSize, agreesRun, agreesWindow}
-use Rattle.sample.proofs.SameBytes.{and-first, and-second, same-equal}
+use Rattle.records.proofs.SameBytes.{and-first, and-second, same-equal}
 
 same-left : (a b : Left) → sameLeft a b ≡ true → a ≡ b
 same-left a b h =

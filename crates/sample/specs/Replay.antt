@@ -6,7 +6,8 @@ use lib.Dec.{eqb, leb}
 use lib.ListN.{length, take, drop}
 use Rattle.sm83.specs.Basics.{if_then_else_, bit}
 use Rattle.blocks.specs.Bytes.{wordAt}
-use Rattle.sample.specs.Record.{kindOf, nameLength, memoryLength, listed, changed, asked, told, sameLeft, askedScreen, toldScreen, sameScreen}
+use Rattle.records.specs.Record.{kindOf, nameLength, memoryLength, listed, changed}
+use Rattle.sample.specs.Told.{asked, told, sameLeft, askedScreen, toldScreen, sameScreen}
 
 -- the longest memory that a record may ask for
 abbrev pub mostMemory : ℕ

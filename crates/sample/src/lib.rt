@@ -3,15 +3,12 @@ ghost use mathlib.Core.Path.{_≡_};
 ghost use Prim.Native.Nat.{_+_, _≤_};
 ghost use lib.ListN.{length, drop};
 ghost use Rattle.sample.specs.Replay.{agrees, frontSize};
+use crate::runs::run_agrees;
+use crate::windows::window_agrees;
 use blocks::bytes::word_at;
-use layout::memory_length;
-use runs::run_agrees;
-use windows::window_agrees;
+use records::layout::memory_length;
 
-pub mod layout;
-pub mod notes;
 pub mod runs;
-pub mod slices;
 pub mod windows;
 
 const MOST_MEMORY: usize = 131072;

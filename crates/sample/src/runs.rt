@@ -3,18 +3,19 @@ ghost use mathlib.Core.Path.{_≡_};
 ghost use Prim.Native.Nat.{_+_, _*_, _≤_};
 ghost use lib.ListN.{length};
 ghost use Rattle.library.specs.Left.{left, runBlocks};
-ghost use Rattle.sample.specs.Record.{memoryLength, budgetOf, changed, changesAt, asked, told, sameLeft};
+ghost use Rattle.records.specs.Record.{memoryLength, changed};
+ghost use Rattle.sample.specs.Told.{budgetOf, changesAt, asked, told, sameLeft};
 ghost use Rattle.sample.specs.Replay.{agreesRun};
-use crate::layout::changed;
-use crate::layout::lay;
-use crate::layout::listed;
-use crate::layout::memory_length;
-use crate::layout::wide;
-use crate::slices::patch;
-use crate::slices::same;
 use blocks::bytes::word_at;
 use library::phk_run;
 use library::phk_step;
+use records::layout::changed;
+use records::layout::lay;
+use records::layout::listed;
+use records::layout::memory_length;
+use records::layout::wide;
+use records::slices::patch;
+use records::slices::same;
 
 fn ask(kind: u8, state: &mut [u8], mem: &mut [u8], budget: u16, answer: &mut [u8]) -> u16
     ensures { λ r. ⌜ left r (now (state .exit)) (now (mem .exit)) (now (answer .exit)) ≡ runBlocks (budgetOf kind budget) (now (state .entry)) (now (mem .entry)) (now (answer .entry)) ⌝ }

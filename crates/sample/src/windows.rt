@@ -2,16 +2,17 @@
 ghost use mathlib.Core.Path.{_≡_};
 ghost use Prim.Native.Nat.{_+_, _*_, _≤_};
 ghost use lib.ListN.{length};
-ghost use Rattle.sample.specs.Record.{memoryLength, listed, changed, marksEnd, askedScreen, toldScreen, sameScreen};
+ghost use Rattle.records.specs.Record.{memoryLength, listed, changed};
+ghost use Rattle.sample.specs.Told.{marksEnd, askedScreen, toldScreen, sameScreen};
 ghost use Rattle.sample.specs.Replay.{agreesWindow};
-use crate::layout::changed;
-use crate::layout::lay;
-use crate::layout::listed;
-use crate::layout::memory_length;
-use crate::layout::wide;
-use crate::slices::same;
 use blocks::bytes::word_at;
 use library::phk_screen;
+use records::layout::changed;
+use records::layout::lay;
+use records::layout::listed;
+use records::layout::memory_length;
+use records::layout::wide;
+use records::slices::same;
 
 // On memory as long as `mem` is, and as many marks as `marks` has.
 fn compare(item: &[u8], mem: &mut [u8], marks: &mut [u8]) -> bool

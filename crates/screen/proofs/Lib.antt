@@ -1,7 +1,4 @@
 -- Laws over plain variables that the functions' proofs cite.
-pub mod Arms
-pub mod Opcodes
-pub mod Classes
 pub mod Targets
 pub mod Steps
 pub mod LastOne

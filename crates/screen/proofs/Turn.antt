@@ -10,10 +10,10 @@ use Rattle.sm83.specs.declared.outcome.Refusal.the-variants.{ForbiddenOpcode, P
 use Rattle.sm83.specs.declared.outcome.Verdict.the-variants.{RefusedAt}
 use Rattle.sm83.specs.State.{addr}
 use Rattle.routine.specs.Flow.{instructionAt, flowAt, isForbidden}
-use Rattle.screen.specs.declared.class.Shape.{Shape}
-use Rattle.screen.specs.Class.{shapeOf, flowOfClass}
+use Rattle.shapes.specs.declared.class.Shape.{Shape}
+use Rattle.shapes.specs.Class.{shapeOf, flowOfClass}
 use Rattle.screen.specs.Parts.{Walked}
-use Rattle.screen.proofs.Classes.{class-test}
+use Rattle.shapes.proofs.Classes.{class-test}
 use Rattle.screen.proofs.Steps.{lengthAt}
 use Rattle.screen.proofs.Reached.{Reached, found-7, found-8, onward, stopped}
 

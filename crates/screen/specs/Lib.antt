@@ -1,3 +1,2 @@
 -- What the contracts of the screen's parts cite.
-pub mod Class
 pub mod Parts

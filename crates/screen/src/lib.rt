@@ -1,6 +1,4 @@
 // The routine screen in code. What it answers is the definition's `screen` (the crate `routine`), for every input.
-pub mod class;
 mod jumps;
 pub mod screen;
 mod walk;
-pub mod window;

@@ -5,7 +5,7 @@ ghost use Rattle.routine.specs.Screen.{verdict, screen};
 ghost use Rattle.screen.specs.Parts.{Inside, settled, Judged};
 use crate::jumps::strays;
 use crate::walk::walk;
-use crate::window::clear;
+use shapes::window::clear;
 use sm83::addr::Addr;
 use sm83::outcome::Refusal;
 use sm83::outcome::Verdict;

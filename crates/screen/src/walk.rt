@@ -2,8 +2,8 @@
 ghost use mathlib.Core.Path.{_≡_};
 ghost use lib.ListN.{length, replicate};
 ghost use Rattle.screen.specs.Parts.{fallsAt, Inside, Walked};
-use crate::window::address;
-use crate::window::shape_at;
+use shapes::window::address;
+use shapes::window::shape_at;
 use sm83::addr::Addr;
 use sm83::outcome::Refusal;
 use sm83::outcome::Verdict;

@@ -3,9 +3,9 @@ use mathlib.Core.Bool.{Bool, true, false}
 use Prim.Native.Nat.{ℕ, _-_}
 use lib.Dec.{ltb}
 use Rattle.opcodes.specs.Instruction.{decode, lengthOf}
-use Rattle.screen.specs.declared.class.Class.{Class}
-use Rattle.screen.specs.declared.class.Class.the-variants.{Plain, Barred, Return, ReturnIf, Absolute, AbsoluteIf, Relative, RelativeIf, Call, CallIf}
-use Rattle.screen.specs.Class.{classOf}
+use Rattle.shapes.specs.declared.class.Class.{Class}
+use Rattle.shapes.specs.declared.class.Class.the-variants.{Plain, Barred, Return, ReturnIf, Absolute, AbsoluteIf, Relative, RelativeIf, Call, CallIf}
+use Rattle.shapes.specs.Class.{classOf}
 use Rattle.text.specs.Page.{choose}
 use Rattle.words.specs.declared.shape.Cell.{Cell}
 

@@ -2,8 +2,8 @@
 ghost use mathlib.Core.Path.{_≡_};
 ghost use Rattle.opcodes.specs.Instruction.{decode, lengthOf};
 ghost use Rattle.words.specs.Cells.{jumpsOf, isJump, cellOf};
-use screen::class::Class;
-use screen::class::shape_of;
+use shapes::class::Class;
+use shapes::class::shape_of;
 
 pub struct Cell {
     pub kind: u8,

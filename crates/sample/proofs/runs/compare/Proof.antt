@@ -2,7 +2,7 @@
 use borrow.Author.Needs.{needs}
 use mathlib.Core.Path.{_≡_, refl, _∙_}
 use native.Mathlib.Omega.{arith}
-use Rattle.sample.specs.Bytes.{part}
+use Rattle.records.specs.Bytes.{part}
 use Rattle.sample.proofs.Compared.{copied, run-compared}
 use Rattle.sample.proofs.runs.compare.Statement.{statement}
 use Rattle.sample.proofs.runs.compare.Tie as tie

@@ -2,7 +2,8 @@
 use borrow.Author.Needs.{needs}
 use mathlib.Core.Path.{sym, _∙_}
 use lib.Seq.{length-take-le}
-use Rattle.sample.proofs.Judged.{within, run-missized, run-sized}
+use Rattle.records.proofs.Within.{within}
+use Rattle.sample.proofs.Judged.{run-missized, run-sized}
 use Rattle.sample.proofs.runs.run_agrees.Statement.{statement}
 use Rattle.sample.proofs.runs.run_agrees.Tie as tie
 

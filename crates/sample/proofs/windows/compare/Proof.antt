@@ -4,7 +4,7 @@ use mathlib.Core.Path.{_≡_, refl, _∙_}
 use Prim.Native.Nat.{_+_, _-_, _≤_}
 use lib.ListN.{length}
 use native.Mathlib.Omega.{arith}
-use Rattle.sample.specs.Bytes.{part}
+use Rattle.records.specs.Bytes.{part}
 use Rattle.sample.proofs.Compared.{copied, screen-compared}
 use Rattle.sample.proofs.windows.compare.Statement.{statement}
 use Rattle.sample.proofs.windows.compare.Tie as tie

@@ -4,7 +4,8 @@ use mathlib.Core.Path.{sym, _∙_}
 use native.Mathlib.Omega.{arith}
 use lib.Seq.{length-take-le}
 use native.Mathlib.Nat.{le-trans as below}
-use Rattle.sample.proofs.Judged.{within, window-missized, window-sized}
+use Rattle.records.proofs.Within.{within}
+use Rattle.sample.proofs.Judged.{window-missized, window-sized}
 use Rattle.sample.proofs.windows.window_agrees.Statement.{statement}
 use Rattle.sample.proofs.windows.window_agrees.Tie as tie
 

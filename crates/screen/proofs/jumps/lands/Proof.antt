@@ -5,7 +5,7 @@ use Prim.Native.Nat.{ℕ}
 use native.Mathlib.Omega.{arith}
 use borrow.Author.Needs.{needs}
 use Rattle.routine.specs.Screen.{isMarked}
-use Rattle.screen.proofs.Classes.{jump-test}
+use Rattle.shapes.proofs.Classes.{jump-test}
 use Rattle.screen.proofs.jumps.lands.Statement.{statement}
 use Rattle.screen.proofs.jumps.lands.Tie as tie
 

@@ -2,7 +2,7 @@
 use mathlib.Core.Path.{_∙_}
 use borrow.Author.Needs.{needs}
 use Rattle.routine.specs.Flow.{endsRoutine}
-use Rattle.screen.proofs.Classes.{class-test}
+use Rattle.shapes.proofs.Classes.{class-test}
 use Rattle.screen.proofs.walk.falls_through.Statement.{statement}
 use Rattle.screen.proofs.walk.falls_through.Tie as tie
 

@@ -1,0 +1,52 @@
+-- Each number of an answer, read back by its offset, is the number that was written.
+use mathlib.Core.Path.{_≡_, refl, sym, subst}
+use mathlib.Core.List.{List, [], _∷_, _++_}
+use Prim.Native.Nat.{ℕ}
+use lib.ListN.{length, take, drop}
+use Rattle.sm83.specs.declared.addr.MCycles.{MCycles}
+use Rattle.sm83.specs.declared.outcome.LastOutcome.{LastOutcome}
+use Rattle.sm83.specs.declared.outcome.Verdict.{Verdict}
+use Rattle.definition.specs.Bus.{byteAt}
+use Rattle.sm83.specs.Numbers.{lastNumber, verdictNumber}
+use Rattle.blocks.specs.Bytes.{wordAt, countAt}
+use Rattle.blocks.specs.StateBlock.{registersAt, flagAt}
+use Rattle.answers.specs.AnswerBlock.{shown, answerFields, answerBytes}
+use Rattle.answers.specs.ScreenBlock.{named, address, verdictFields, verdictBytes}
+use Rattle.blocks.proofs.Coded.{word-there, count-there, flag-there}
+use Rattle.blocks.proofs.Filled.{at-length}
+
+-- what stands in a step's or a run's answer
+pub record Answers (last : LastOutcome) (steps : ℕ) (cycles : MCycles) (block : List ℕ) : Type 0 where
+  pub number-at-0 : wordAt block 0 ≡ lastNumber last
+  pub steps-at-2 : wordAt block 2 ≡ steps
+  pub cycles-at-4 : countAt block 4 ≡ cycles .0
+  pub registers-at-8 : registersAt block 8 ≡ shown last
+  pub zeros-at-20 : take 4 (drop 20 block) ≡ 0 ∷ 0 ∷ 0 ∷ 0 ∷ []
+
+fields-answer : (last : LastOutcome) (steps : ℕ) (cycles : MCycles) (rest : List ℕ) → Answers last steps cycles (answerFields last steps cycles ++ rest)
+fields-answer last steps cycles rest =
+    record {
+      number-at-0 = word-there (lastNumber last);
+      steps-at-2 = word-there steps;
+      cycles-at-4 = count-there (cycles .0);
+      registers-at-8 = simp word-there;
+      zeros-at-20 = refl;
+    }
+
+pub answer-there : (last : LastOutcome) (steps : ℕ) (cycles : MCycles) (block : List ℕ) → length block ≡ 24 → Answers last steps cycles (answerBytes last steps cycles block)
+answer-there last steps cycles block same =
+    subst (Answers last steps cycles) (sym (at-length 24 (answerFields last steps cycles) block same)) (fields-answer last steps cycles (drop 24 block))
+
+-- what stands in a screen's answer
+pub record Says (verdict : Verdict) (block : List ℕ) : Type 0 where
+  pub number-at-0 : byteAt block 0 ≡ verdictNumber verdict
+  pub named-at-1 : flagAt block 1 ≡ named verdict
+  pub address-at-2 : wordAt block 2 ≡ address verdict .0
+
+fields-say : (verdict : Verdict) (rest : List ℕ) → Says verdict (verdictFields verdict ++ rest)
+fields-say verdict rest =
+    record { number-at-0 = refl; named-at-1 = flag-there (named verdict); address-at-2 = word-there (address verdict .0) }
+
+pub verdict-there : (verdict : Verdict) (block : List ℕ) → length block ≡ 4 → Says verdict (verdictBytes verdict block)
+verdict-there verdict block same =
+    subst (Says verdict) (sym (at-length 4 (verdictFields verdict) block same)) (fields-say verdict (drop 4 block))

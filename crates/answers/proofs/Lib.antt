@@ -1,0 +1,3 @@
+-- What is proved of the answer blocks.
+pub mod Answered
+pub mod Answers

@@ -1,0 +1,3 @@
+-- The layouts of the answer blocks, by their offsets.
+pub mod AnswerBlock
+pub mod ScreenBlock

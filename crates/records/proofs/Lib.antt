@@ -1,0 +1,4 @@
+-- The laws behind reading a record.
+pub mod SameBytes
+pub mod Within
+pub mod Noting

@@ -1,0 +1,4 @@
+-- What a record says.
+pub mod Bytes
+pub mod Record
+pub mod Notes

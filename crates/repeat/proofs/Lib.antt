@@ -1,0 +1,2 @@
+-- One more step of a run.
+pub mod Repeating

@@ -1,0 +1,2 @@
+-- What the contract of the loop is stated with.
+pub mod Ran

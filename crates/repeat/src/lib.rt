@@ -1,0 +1,78 @@
+// Steps one after the other, up to a budget: the loop of a run, on memory and a state that have been tested.
+ghost use mathlib.Core.Path.{_≡_};
+ghost use Prim.Native.Nat.{_%_};
+ghost use lib.ListN.{length};
+ghost use Rattle.sm83.specs.declared.outcome.LastOutcome.the-variants.{NothingRun};
+ghost use Rattle.sm83.specs.State.{flags};
+ghost use Rattle.definition.specs.Bus.{plain};
+ghost use Rattle.definition.specs.Run.{stopsRun, repeated};
+ghost use Rattle.repeat.specs.Ran.{answer};
+use cpu::step::next_instruction;
+use instruction::instructions_table::instructions;
+use instruction::prefixed_table::prefixed_instructions;
+use memory::Port;
+use sm83::addr::MCycles;
+use sm83::outcome::LastOutcome;
+use sm83::outcome::Outcome;
+use sm83::state::Cpu;
+
+pub struct Ran {
+    pub last: LastOutcome,
+    pub cpu: Cpu,
+    pub steps: u16,
+    pub cycles: MCycles,
+}
+
+// After InfiniteLoop, Breakpoint, Stopped or a refusal.
+fn stops(outcome: Outcome) -> bool
+    ensures { λ r. ⌜ r ≡ stopsRun outcome ⌝ }
+{
+    match outcome {
+        Outcome::Normal => false,
+        Outcome::InfiniteLoop => true,
+        Outcome::Halting => false,
+        Outcome::RunningHDMA => false,
+        Outcome::Stopped => true,
+        Outcome::RunningInterrupt(_) => false,
+        Outcome::Breakpoint(_) => true,
+        Outcome::Refused(_) => true,
+    }
+}
+
+pub fn repeat(cpu: Cpu, mem: &mut [u8], budget: u16) -> Ran
+    requires { ⌜ length (now mem) ≡ 65536 ⌝ }
+    requires { ⌜ flags cpu % 16 ≡ 0 ⌝ }
+    ensures { λ r. ⌜ answer r (now (mem .exit)) ≡ repeated plain NothingRun budget cpu (now (mem .entry)) ⌝ }
+{
+    let table = instructions();
+    let prefixed = prefixed_instructions();
+    let mut s = cpu;
+    let mut p = Port { cycles: MCycles(0) };
+    let mut last = LastOutcome::NothingRun;
+    let mut n: u16 = 0;
+    while n < budget {
+        let x = next_instruction(s, p, &table, &prefixed, mem);
+        s = x.cpu;
+        p = x.port;
+        let o = x.outcome;
+        last = LastOutcome::Last(o);
+        n = n + 1;
+        let stop = stops(o);
+        if stop {
+            let cycles = p.cycles;
+            return Ran {
+                last: last,
+                cpu: s,
+                steps: n,
+                cycles: cycles,
+            };
+        }
+    }
+    let cycles = p.cycles;
+    Ran {
+        last: last,
+        cpu: s,
+        steps: n,
+        cycles: cycles,
+    }
+}

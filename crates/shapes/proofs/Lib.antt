@@ -1,0 +1,4 @@
+-- Every opcode's length and class, by a computed test.
+pub mod Arms
+pub mod Opcodes
+pub mod Classes
