@@ -8,13 +8,13 @@ ghost use Rattle.definition.specs.Bus.{plain};
 ghost use Rattle.definition.specs.Run.{stopsRun, repeated};
 ghost use Rattle.repeat.specs.Ran.{answer};
 use cpu::step::next_instruction;
-use instruction::instructions_table::instructions;
-use instruction::prefixed_table::prefixed_instructions;
 use memory::Port;
 use sm83::addr::MCycles;
 use sm83::outcome::LastOutcome;
 use sm83::outcome::Outcome;
 use sm83::state::Cpu;
+use tables::instructions_table::instructions;
+use tables::prefixed_table::prefixed_instructions;
 
 pub struct Ran {
     pub last: LastOutcome,

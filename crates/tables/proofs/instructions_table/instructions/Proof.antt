@@ -2,9 +2,9 @@
 use mathlib.Core.Path.{refl}
 use Rattle.opcodes.specs.Instruction.{decode}
 use Rattle.opcodes.proofs.Tested.{agree}
 use Rattle.instruction.specs.Entry.{rowAt, Plain}
-use Rattle.instruction.proofs.instructions_table.instructions.Statement.{statement}
-use Rattle.instruction.proofs.instructions_table.instructions.Tie as tie
+use Rattle.tables.proofs.instructions_table.instructions.Statement.{statement}
+use Rattle.tables.proofs.instructions_table.instructions.Tie as tie
 
 returns : tie.Need-returns
 unfolding Plain rowAt decode

@@ -2,9 +2,9 @@
 use mathlib.Core.Path.{refl}
 use Rattle.opcodes.specs.Instruction.{decodeCB}
 use Rattle.opcodes.proofs.Tested.{agree}
 use Rattle.instruction.specs.Entry.{rowAt, Prefixed}
-use Rattle.instruction.proofs.prefixed_table.prefixed_instructions.Statement.{statement}
-use Rattle.instruction.proofs.prefixed_table.prefixed_instructions.Tie as tie
+use Rattle.tables.proofs.prefixed_table.prefixed_instructions.Statement.{statement}
+use Rattle.tables.proofs.prefixed_table.prefixed_instructions.Tie as tie
 
 returns : tie.Need-returns
 unfolding Prefixed rowAt decodeCB
