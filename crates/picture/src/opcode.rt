@@ -1,0 +1,40 @@
+// Length of the instruction that a byte starts, and whether it is a jump.
+ghost use mathlib.Core.Path.{_≡_};
+ghost use Rattle.sm83.specs.Instruction.{decode, lengthOf};
+ghost use Rattle.screen.specs.Class.{flowOfClass};
+ghost use Rattle.picture.specs.Opcode.{goesSomewhere, isJump};
+use screen::class::Class;
+use screen::class::shape_of;
+
+fn jumps(class: Class) -> bool
+    ensures { λ r. ⌜ r ≡ goesSomewhere (flowOfClass class 0 0 0) ⌝ }
+{
+    match class {
+        Class::Plain => false,
+        Class::Barred => false,
+        Class::Return => false,
+        Class::ReturnIf => false,
+        Class::Absolute => true,
+        Class::AbsoluteIf => true,
+        Class::Relative => true,
+        Class::RelativeIf => true,
+        Class::Call => false,
+        Class::CallIf => false,
+    }
+}
+
+pub fn length_of(b: u8) -> u8
+    ensures { λ r. ⌜ r ≡ lengthOf (decode b) ⌝ }
+{
+    let shape = shape_of(b);
+    shape.0
+}
+
+// JP or JR, conditional or not.
+pub fn is_jump(b: u8) -> bool
+    ensures { λ r. ⌜ r ≡ isJump b ⌝ }
+{
+    let shape = shape_of(b);
+    let class = shape.1;
+    jumps(class)
+}
