@@ -3,6 +3,7 @@ use mathlib.Core.Bool.{true, false, _&&_}
 use mathlib.Core.List.{List, [], _∷_}
 use Prim.Native.Nat.{ℕ, zero, suc, _-_}
 use lib.Dec.{eqb, ltb}
+use Rattle.sm83.specs.declared.addr.Addr.{Addr}
 use Rattle.sm83.specs.declared.outcome.Verdict.{Verdict}
 use Rattle.sm83.specs.declared.outcome.Verdict.the-variants.{Passes, Refused, RefusedAt}
 use Rattle.sm83.specs.Basics.{if_then_else_, next}
@@ -17,11 +18,14 @@ use Rattle.picture.specs.declared.kinds.Cell.{Cell}
 abbrev pub nowhere : Stop
 nowhere = record { found = false; at = addr 0; ends = false }
 
--- the refused byte; 7 and 8 end the walk, 9 and 10 are found after it
+-- 7 and 8 end the walk, 9 and 10 are found after it
+abbrev pub stopAt : Addr → ℕ → Stop
+stopAt a number = record { found = true; at = a; ends = ltb number 9 }
+
 abbrev pub stopOf : Verdict → Stop
 stopOf Passes = nowhere
 stopOf (Refused r) = nowhere
-stopOf (RefusedAt r a) = record { found = true; at = a; ends = ltb (numberOf r) 9 }
+stopOf (RefusedAt r a) = stopAt a (numberOf r)
 
 abbrev pub cell : ℕ → ℕ → Cell
 cell kind left = record { kind = kind; left = left; ended = false }

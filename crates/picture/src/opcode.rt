@@ -23,10 +23,10 @@ fn jumps(class: Class) -> bool
     }
 }
 
-pub fn length_of(b: u8) -> u8
-    ensures { λ r. ⌜ r ≡ lengthOf (decode b) ⌝ }
+pub fn length_of(opcode: u8) -> u8
+    ensures { λ r. ⌜ r ≡ lengthOf (decode opcode) ⌝ }
 {
-    let shape = shape_of(b);
+    let shape = shape_of(opcode);
     shape.0
 }
 

@@ -1,11 +1,11 @@
 -- A refusal with an address, or a verdict without one.
 use borrow.Author.Needs.{needs}
-use Rattle.picture.proofs.Drawing.{no-address}
+use Rattle.picture.proofs.Drawing.{no-address, at-address}
 use Rattle.picture.proofs.kinds.stop_of.Statement.{statement}
 use Rattle.picture.proofs.kinds.stop_of.Tie as tie
 
 returns : tie.Need-returns
-returns c = simp (c .number .ensures, c .before .before .verdict .given .1)
+returns c = at-address _ _ _ _ (c .before .before .verdict .given .1) (c .number .ensures)
 
 returns-2 : tie.Need-returns-2
 returns-2 c = no-address (c .before .args .verdict) (c .match .keys2)
