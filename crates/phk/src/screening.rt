@@ -9,6 +9,9 @@ use command::line::LAST;
 use command::line::Line;
 use command::line::MAP;
 use command::line::MARKS;
+use picture::counts::count;
+use picture::kinds::draw;
+use picture::opcode::length_of;
 use screen::screen::screen;
 use sm83::addr::Addr;
 use sm83::outcome::Verdict;
@@ -16,18 +19,14 @@ use words::lines::put_cell;
 use words::lines::put_passes;
 use words::lines::put_refused;
 use words::lines::put_refused_whole;
-use words::shape::cell_of;
-use words::shape::is_jump;
-use words::shape::length_of;
 use words::steps::put_marked;
 use words::steps::put_row;
 
-// A byte of memory; addresses wrap.
 pub fn byte(mem: &[u8], a: u16) -> u8 {
-    let i = a as usize;
-    if i < mem.len() { mem[i] } else { 0 }
+    picture::byte::byte(mem, Addr(a))
 }
 
+// Addresses wrap.
 pub fn after(a: u16, by: u16) -> u16 {
     std::num::wrapping_add_u16(a, by)
 }
@@ -42,43 +41,6 @@ fn mark(marks: &[u8], i: usize) -> bool {
 
 fn index_of(a: u16, first: u16) -> usize {
     std::num::wrapping_sub_u16(a, first) as usize
-}
-
-struct Counts {
-    instructions: u64,
-    jumps: u64,
-}
-
-fn counted(c: Counts, mem: &[u8], marks: &[u8], first: u16, a: u16) -> Counts {
-    if !mark(marks, index_of(a, first)) {
-        return c;
-    }
-    let n = std::num::wrapping_add_u64(c.instructions, 1);
-    if is_jump(byte(mem, a)) {
-        return Counts {
-            instructions: n,
-            jumps: std::num::wrapping_add_u64(c.jumps, 1),
-        };
-    }
-    Counts {
-        instructions: n,
-        jumps: c.jumps,
-    }
-}
-
-fn count_all(mem: &[u8], marks: &[u8], first: u16, length: u16) -> Counts {
-    let mut c = Counts {
-        instructions: 0,
-        jumps: 0,
-    };
-    let mut left = length;
-    let mut a = first;
-    while 0 < left {
-        c = counted(c, mem, marks, first, a);
-        a = after(a, 1);
-        left = left - 1;
-    }
-    c
 }
 
 fn print_start(mem: &[u8], marks: &[u8], first: u16, a: u16) {
@@ -108,41 +70,10 @@ fn print_starts(mem: &[u8], marks: &[u8], first: u16, length: u16) {
     }
 }
 
-// What the map knows at a byte: the operand bytes still to come, and whether the walk has ended.
-struct Walk {
-    left: u8,
-    ended: bool,
-}
-
-// One byte of the map. `bad` is the refused address, if `found`; the walk ends there for refusals 7 and 8.
-fn map_byte(
-    mem: &[u8],
-    a: u16,
-    bad: u16,
-    found: bool,
-    ends: bool,
-    colour: bool,
-    walk: Walk,
-) -> Walk {
+fn print_cell(kind: u8, colour: bool) {
     let mut out = [0u8; 64];
-    if walk.ended {
-        let n = put_cell(&mut out, 0, 0, colour);
-        say(1, &out, n);
-        return walk;
-    }
-    let cell = cell_of(walk.left, byte(mem, a));
-    let here = found & (a == bad);
-    if here {
-        let n = put_cell(&mut out, 0, 4, colour);
-        say(1, &out, n);
-    } else {
-        let n = put_cell(&mut out, 0, cell.kind, colour);
-        say(1, &out, n);
-    }
-    Walk {
-        left: cell.left,
-        ended: here & ends,
-    }
+    let n = put_cell(&mut out, 0, kind, colour);
+    say(1, &out, n);
 }
 
 fn row_start(a: u16) {
@@ -157,25 +88,34 @@ fn row_end(more: bool) {
     }
 }
 
-fn print_map(mem: &[u8], first: u16, length: u16, bad: u16, found: bool, ends: bool, colour: bool) {
-    let mut walk = Walk {
-        left: 0,
-        ended: false,
-    };
-    let mut left = length;
+// A cell for each byte, 32 to a row.
+fn print_cells(kinds: &[u8], first: u16, colour: bool) {
     let mut a = first;
     let mut column: u8 = 0;
-    while 0 < left {
+    let mut i = 0;
+    while i < kinds.len() {
         if column == 0 {
             row_start(a);
         }
-        walk = map_byte(mem, a, bad, found, ends, colour, walk);
+        print_cell(kinds[i], colour);
         a = after(a, 1);
-        left = left - 1;
+        i += 1;
         column = (column % 32 + 1) % 32;
         row_end(column == 0);
     }
     row_end(column != 0);
+}
+
+fn print_drawn(mem: &[u8], first: u16, verdict: Verdict, kinds: &mut [u8], colour: bool) {
+    draw(mem, Addr(first), verdict, kinds);
+    print_cells(kinds, first, colour);
+    legend();
+}
+
+fn print_map(mem: &[u8], first: u16, length: u16, verdict: Verdict, colour: bool) {
+    let mut kinds = io::buffer();
+    let n = within(&kinds, length as usize);
+    print_drawn(mem, first, verdict, &mut kinds[..n], colour);
 }
 
 fn legend() {
@@ -187,7 +127,7 @@ fn legend() {
 
 fn print_passes(line: Line, mem: &[u8], marks: &[u8], first: u16, last: u16, length: u16) {
     let mut out = [0u8; 128];
-    let c = count_all(mem, marks, first, length);
+    let c = count(mem, Addr(first), marks);
     let n = put_passes(&mut out, 0, first, last, c.instructions, c.jumps);
     say(1, &out, n);
     if line.slot_of(MARKS) != 0 {
@@ -233,8 +173,7 @@ fn judged(
         Verdict::Passes => {
             print_passes(line, mem, marks, first, last, length);
             if map {
-                print_map(mem, first, length, 0, false, false, colour);
-                legend();
+                print_map(mem, first, length, verdict, colour);
             }
             said::DONE
         }
@@ -245,8 +184,7 @@ fn judged(
         Verdict::RefusedAt(_, at) => {
             print_refused(mem, number, at.0);
             if map {
-                print_map(mem, first, length, at.0, true, number < 9, colour);
-                legend();
+                print_map(mem, first, length, verdict, colour);
             }
             said::REFUSED
         }

@@ -3,6 +3,5 @@ pub mod Sentence
 pub mod Mistake
 pub mod Registers
 pub mod Lines
-pub mod Cells
 pub mod Files
 pub mod Steps

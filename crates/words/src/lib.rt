@@ -4,5 +4,4 @@ pub mod lines;
 pub mod mistake;
 pub mod registers;
 pub mod sentence;
-pub mod shape;
 pub mod steps;

@@ -1,0 +1,4 @@
+-- Laws over plain variables that the functions' proofs cite.
+pub mod Counting
+pub mod Drawing
+pub mod Passed
