@@ -7,7 +7,7 @@ use lib.Dec.{eqb}
 use lib.ListN.{length}
 use borrow.Author.Tests.{eqb-true}
 use Rattle.sm83.specs.Basics.{if_then_else_}
-use Rattle.library.specs.Left.{Left, left, LeftByScreen, leftByScreen}
+use Rattle.calls.specs.Left.{Left, left, LeftByScreen, leftByScreen}
 use Rattle.records.specs.Bytes.{sameBytes}
 use Rattle.records.specs.Record.{memoryLength}
 use Rattle.sample.specs.Told.{asked, told, sameLeft, askedScreen, toldScreen, sameScreen}

@@ -2,7 +2,7 @@
 ghost use mathlib.Core.Path.{_≡_};
 ghost use Prim.Native.Nat.{_+_, _*_, _≤_};
 ghost use lib.ListN.{length};
-ghost use Rattle.library.specs.Left.{left, runBlocks};
+ghost use Rattle.calls.specs.Left.{left, runBlocks};
 ghost use Rattle.records.specs.Record.{memoryLength, changed};
 ghost use Rattle.sample.specs.Told.{budgetOf, changesAt, asked, told, sameLeft};
 ghost use Rattle.sample.specs.Replay.{agreesRun};

@@ -1,4 +1,4 @@
--- What each exported function answers and leaves: the document's number, and every byte of every block. A malformed block is refused with nothing changed.
+-- What a call answers and leaves: the document's number, and every byte of every block. A malformed block is refused with nothing changed.
 use mathlib.Core.Bool.{Bool, true, false}
 use mathlib.Core.List.{List}
 use Prim.Native.Nat.{ℕ}

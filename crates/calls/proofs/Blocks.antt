@@ -20,7 +20,7 @@ use Rattle.blocks.specs.declared.state.StateRead.the-variants.{State, Malformed
 use Rattle.blocks.specs.StateBlock.{stateOf, stateBytes}
 use Rattle.answers.specs.AnswerBlock.{answerBytes}
 use Rattle.answers.specs.ScreenBlock.{verdictBytes}
-use Rattle.library.specs.Left.{malformed, Left, left, written, runFrom, runBlocks, LeftByScreen, leftByScreen, screenBlocks}
+use Rattle.calls.specs.Left.{malformed, Left, left, written, runFrom, runBlocks, LeftByScreen, leftByScreen, screenBlocks}
 
 module _ (budget : ℕ) (state memory block : List ℕ) where
   pub wrong-answer-block : (length block ≡ 24 → ⊥) → left malformed state memory block ≡ runBlocks budget state memory block

@@ -1,0 +1,2 @@
+-- What the functions leave, from what their callees answer.
+pub mod Blocks

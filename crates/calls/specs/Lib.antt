@@ -1,0 +1,2 @@
+-- What a call leaves of its blocks.
+pub mod Left
