@@ -9,10 +9,10 @@ use Rattle.sm83.specs.declared.addr.MCycles.{MCycles}
 use Rattle.sm83.specs.declared.registers.CpuRegisters.{CpuRegisters}
 use Rattle.sm83.specs.declared.outcome.LastOutcome.{LastOutcome}
 use Rattle.sm83.specs.Numbers.{lastNumber}
-use Rattle.blocks.specs.Bytes.{wordBytes, countBytes}
-use Rattle.blocks.specs.StateBlock.{registerBytes}
+use Rattle.fields.specs.Bytes.{wordBytes, countBytes}
+use Rattle.fields.specs.Registers.{registerBytes}
 use Rattle.answers.specs.AnswerBlock.{shown, answerFields, answerBytes}
-use Rattle.blocks.proofs.Stores.{and-then, filling}
+use Rattle.fields.proofs.Stores.{and-then, filling}
 
 module _ (last : LastOutcome) (steps : ℕ) (cycles : MCycles) (block : List ℕ) (right-length : length block ≡ 24) where
   pub answered :

@@ -8,12 +8,13 @@ use Rattle.sm83.specs.declared.outcome.LastOutcome.{LastOutcome}
 use Rattle.sm83.specs.declared.outcome.Verdict.{Verdict}
 use Rattle.definition.specs.Bus.{byteAt}
 use Rattle.sm83.specs.Numbers.{lastNumber, verdictNumber}
-use Rattle.blocks.specs.Bytes.{wordAt, countAt}
-use Rattle.blocks.specs.StateBlock.{registersAt, flagAt}
+use Rattle.fields.specs.Bytes.{wordAt, countAt}
+use Rattle.fields.specs.Registers.{registersAt}
+use Rattle.blocks.specs.StateBlock.{flagAt}
 use Rattle.answers.specs.AnswerBlock.{shown, answerFields, answerBytes}
 use Rattle.answers.specs.ScreenBlock.{named, address, verdictFields, verdictBytes}
 use Rattle.blocks.proofs.Coded.{word-there, count-there, flag-there}
-use Rattle.blocks.proofs.Filled.{at-length}
+use Rattle.fields.proofs.Filled.{at-length}
 
 -- what stands in a step's or a run's answer
 pub record Answers (last : LastOutcome) (steps : ℕ) (cycles : MCycles) (block : List ℕ) : Type 0 where

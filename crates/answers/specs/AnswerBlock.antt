@@ -10,8 +10,8 @@ use Rattle.sm83.specs.declared.outcome.LastOutcome.{LastOutcome}
 use Rattle.sm83.specs.declared.outcome.LastOutcome.the-variants.{NothingRun, Last}
 use Rattle.sm83.specs.Numbers.{lastNumber}
 use Rattle.sm83.specs.PowerOn.{registers-zero}
-use Rattle.blocks.specs.Bytes.{wordBytes, countBytes, filled}
-use Rattle.blocks.specs.StateBlock.{registerBytes}
+use Rattle.fields.specs.Bytes.{wordBytes, countBytes, filled}
+use Rattle.fields.specs.Registers.{registerBytes}
 
 -- the registers that a Breakpoint shows; every register 0 otherwise
 abbrev pub shownBy : Outcome → CpuRegisters

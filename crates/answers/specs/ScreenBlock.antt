@@ -8,7 +8,7 @@ use Rattle.sm83.specs.declared.outcome.Verdict.the-variants.{Passes, Refused, R
 use Rattle.sm83.specs.Basics.{bit}
 use Rattle.sm83.specs.State.{addr}
 use Rattle.sm83.specs.Numbers.{verdictNumber}
-use Rattle.blocks.specs.Bytes.{wordBytes, filled}
+use Rattle.fields.specs.Bytes.{wordBytes, filled}
 
 abbrev pub named : Verdict → Bool
 named Passes = false

@@ -1,9 +1,9 @@
 // The answer block of a step or a run: 24 bytes.
 ghost use mathlib.Core.Path.{_≡_};
 ghost use Rattle.answers.specs.AnswerBlock.{shownBy, shown, answerBytes};
-use blocks::bytes::put_count;
-use blocks::bytes::put_registers;
-use blocks::bytes::put_word;
+use fields::bytes::put_count;
+use fields::bytes::put_registers;
+use fields::bytes::put_word;
 use sm83::addr::MCycles;
 use sm83::outcome::LastOutcome;
 use sm83::outcome::Outcome;

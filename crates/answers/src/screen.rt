@@ -1,8 +1,8 @@
 // The screen's answer block: 4 bytes.
 ghost use mathlib.Core.Path.{_≡_};
 ghost use Rattle.answers.specs.ScreenBlock.{named, address, verdictBytes};
-use blocks::bytes::flag_byte;
-use blocks::bytes::put_word;
+use fields::bytes::flag_byte;
+use fields::bytes::put_word;
 use sm83::addr::Addr;
 use sm83::outcome::Verdict;
 

@@ -6,7 +6,7 @@ use native.Mathlib.Omega.{arith}
 use lib.ListN.{length, take, drop, length-drop}
 use Rattle.sm83.specs.declared.state.Cpu.{Cpu}
 use Rattle.blocks.specs.StateBlock.{stateFields, stateBytes, stateOf}
-use Rattle.blocks.proofs.Filled.{at-length, bytesFrom, parted}
+use Rattle.fields.proofs.Filled.{at-length, bytesFrom, parted}
 
 -- not changed
 pub reserved-kept : (s : Cpu) (block : List ℕ) → length block ≡ 24 → drop 18 (stateBytes s block) ≡ drop 18 block

@@ -10,7 +10,7 @@ use Rattle.definition.proofs.Ranges.{Bytes}
 use Rattle.blocks.specs.declared.state.StateRead.the-variants.{State}
 use Rattle.blocks.specs.StateBlock.{stateFields, stateBytes, stateAt, stateOf}
 use Rattle.blocks.proofs.Coded.{low-back, high-back, flag-back, halt-back}
-use Rattle.blocks.proofs.Filled.{at-length, bytesFrom, parted}
+use Rattle.fields.proofs.Filled.{at-length, bytesFrom, parted}
 use Rattle.blocks.proofs.WellFormed.{WellFormed, read-only-if}
 
 own-front : (block : List ℕ) → Bytes block → WellFormed block → stateFields (stateAt block) ≡ bytesFrom block 0 18

@@ -9,7 +9,7 @@ use Rattle.sm83.specs.declared.state.Cpu.{Cpu}
 use Rattle.blocks.specs.declared.state.StateRead.the-variants.{State}
 use Rattle.blocks.specs.StateBlock.{stateFields, stateBytes, stateOf}
 use Rattle.blocks.proofs.Coded.{word-there, flag-there, flag-well, halt-there, halt-well}
-use Rattle.blocks.proofs.Filled.{at-length}
+use Rattle.fields.proofs.Filled.{at-length}
 
 -- eighteen bytes of a state, and six others
 pub fields-read : (s : Cpu) (reserved : List ℕ) → length reserved ≡ 6 → stateOf (stateFields s ++ reserved) ≡ State s

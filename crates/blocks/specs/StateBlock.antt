@@ -14,7 +14,8 @@ use Rattle.definition.specs.Bus.{byteAt}
 use Rattle.sm83.specs.State.{registersOf}
 use Rattle.blocks.specs.declared.state.StateRead.{StateRead}
 use Rattle.blocks.specs.declared.state.StateRead.the-variants.{State, Malformed}
-use Rattle.blocks.specs.Bytes.{wordBytes, wordAt, filled}
+use Rattle.fields.specs.Bytes.{filled}
+use Rattle.fields.specs.Registers.{registerBytes, registersAt}
 
 -- 0 NotHalting, 1 HaltRunInterrupt, 2 HaltNoRunInterrupt, 3 HaltBug
 abbrev pub haltNumber : HaltMode → ℕ
@@ -27,9 +28,6 @@ abbrev pub haltAt : ℕ → HaltMode
 haltAt n = getD (NotHalting ∷ HaltRunInterrupt ∷ HaltNoRunInterrupt ∷ []) n HaltBug
 
 -- Writing.
-
-abbrev pub registerBytes : CpuRegisters → List ℕ
-registerBytes r = r .a ∷ r .f ∷ r .b ∷ r .c ∷ r .d ∷ r .e ∷ r .h ∷ r .l ∷ wordBytes (r .sp .0) ++ wordBytes (r .pc .0)
 
 abbrev pub stateFields : Cpu → List ℕ
 stateFields s = registerBytes (s .registers) ++ bit (s .ime) ∷ bit (s .latch) ∷ haltNumber (s .halt) ∷ bit (s .stopped) ∷ bit (s .hdma) ∷ bit (s .dmg) ∷ []
@@ -50,21 +48,6 @@ flagsWellFormed block =
 -- the length is 24, each of the five flags is 0 or 1, and the halt mode is not above 3
 abbrev pub wellFormed : List ℕ → Bool
 wellFormed block = eqb (length block) 24 && flagsWellFormed block
-
--- the registers that stand at an offset
-abbrev pub registersAt : List ℕ → ℕ → CpuRegisters
-registersAt block at =
-    registersOf
-    (byteAt block at)
-    (byteAt block (at + 1))
-    (byteAt block (at + 2))
-    (byteAt block (at + 3))
-    (byteAt block (at + 4))
-    (byteAt block (at + 5))
-    (byteAt block (at + 6))
-    (byteAt block (at + 7))
-    (wordAt block (at + 8))
-    (wordAt block (at + 10))
 
 abbrev pub flagAt : List ℕ → ℕ → Bool
 flagAt block at = eqb (byteAt block at) 1

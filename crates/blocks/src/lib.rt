@@ -1,3 +1,2 @@
 // The processor's state as a block of bytes with fixed offsets, on lent slices. Layouts: specs/.
-pub mod bytes;
 pub mod state;

@@ -3,9 +3,9 @@ ghost use mathlib.Core.Path.{_≡_};
 ghost use Prim.Native.Nat.{_≤_};
 ghost use lib.ListN.{length};
 ghost use Rattle.blocks.specs.StateBlock.{haltNumber, haltAt, flagsWellFormed, stateAt, stateOf, stateBytes};
-use crate::bytes::flag_byte;
-use crate::bytes::front_registers;
-use crate::bytes::put_registers;
+use fields::bytes::flag_byte;
+use fields::bytes::front_registers;
+use fields::bytes::put_registers;
 use sm83::state::Cpu;
 use sm83::state::HaltMode;
 

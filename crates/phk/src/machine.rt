@@ -17,7 +17,7 @@ use command::line::TRACE;
 use command::names::CGB;
 use command::names::CGB_DMG;
 use command::names::ZERO;
-use picture::opcode::length_of;
+use reading::opcode::length_of;
 use run::run;
 use run::step;
 use sm83::addr::Addr;

@@ -11,7 +11,7 @@ use command::line::MAP;
 use command::line::MARKS;
 use picture::counts::count;
 use picture::kinds::draw;
-use picture::opcode::length_of;
+use reading::opcode::length_of;
 use screen::screen::screen;
 use sm83::addr::Addr;
 use sm83::outcome::Verdict;

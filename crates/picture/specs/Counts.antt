@@ -6,7 +6,7 @@ use lib.Dec.{eqb}
 use lib.ListN.{getD, length}
 use Rattle.sm83.specs.Basics.{bit}
 use Rattle.definition.specs.Bus.{byteAt}
-use Rattle.picture.specs.Opcode.{isJump}
+use Rattle.reading.specs.Opcode.{isJump}
 use Rattle.picture.specs.declared.counts.Counts.{Counts}
 
 -- the byte at an index of the window: addresses wrap at 65,536

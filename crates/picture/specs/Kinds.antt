@@ -11,7 +11,7 @@ use Rattle.definition.specs.Bus.{byteAt}
 use Rattle.sm83.specs.State.{addr}
 use Rattle.sm83.specs.Numbers.{numberOf}
 use Rattle.opcodes.specs.Instruction.{decode, operands}
-use Rattle.picture.specs.Opcode.{isJump}
+use Rattle.reading.specs.Opcode.{isJump}
 use Rattle.picture.specs.declared.kinds.Stop.{Stop}
 use Rattle.picture.specs.declared.kinds.Cell.{Cell}
 

@@ -1,4 +1,3 @@
 -- What the contracts of the counts and of the picture cite.
-pub mod Opcode
 pub mod Counts
 pub mod Kinds

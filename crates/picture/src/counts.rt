@@ -2,8 +2,8 @@
 ghost use mathlib.Core.Path.{_≡_};
 ghost use Rattle.sm83.specs.Basics.{bit};
 ghost use Rattle.picture.specs.Counts.{byteIn, countsOf};
-use crate::byte::byte;
-use crate::opcode::is_jump;
+use reading::byte::byte;
+use reading::opcode::is_jump;
 use sm83::addr::Addr;
 
 pub struct Counts {

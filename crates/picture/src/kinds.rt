@@ -2,9 +2,9 @@
 ghost use mathlib.Core.Path.{_≡_};
 ghost use lib.ListN.{length};
 ghost use Rattle.picture.specs.Kinds.{stopOf, startKind, cellOf, cellAt, kindsOf};
-use crate::byte::byte;
-use crate::opcode::is_jump;
-use crate::opcode::length_of;
+use reading::byte::byte;
+use reading::opcode::is_jump;
+use reading::opcode::length_of;
 use sm83::addr::Addr;
 use sm83::outcome::Verdict;
 

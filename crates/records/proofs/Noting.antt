@@ -8,7 +8,7 @@ use lib.Dec.{eqb, ltb}
 use lib.ListN.{length}
 use borrow.Author.Tests.{eq-eqb, ne-eqb, lt-ltb, le-ltb}
 use Rattle.definition.specs.Bus.{byteAt, pending, isInterrupt}
-use Rattle.blocks.specs.Bytes.{wordAt}
+use Rattle.fields.specs.Bytes.{wordAt}
 use Rattle.records.specs.Bytes.{part}
 use Rattle.records.specs.Record.{kindOf, memoryLength, listed, memoryFrom}
 use Rattle.records.specs.Notes.{counted, fetches, opcodeOf, prefixNoted, fetchNoted, opcodeNoted, runNoted, noted}

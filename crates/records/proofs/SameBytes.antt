@@ -8,7 +8,7 @@ use lib.Dec.{eqb}
 use lib.ListN.{set}
 use borrow.Author.Tests.{eq-eqb, eqb-true}
 use Rattle.definition.specs.Bus.{byteAt}
-use Rattle.blocks.specs.Bytes.{wordAt}
+use Rattle.fields.specs.Bytes.{wordAt}
 use Rattle.records.specs.Bytes.{sameBytes, patched}
 
 pub and-first : (a b : Bool) → a && b ≡ true → a ≡ true

@@ -5,7 +5,7 @@ use Prim.Native.Nat.{ℕ, zero, suc, _+_, _-_}
 use lib.Dec.{eqb}
 use lib.ListN.{take, drop, set}
 use Rattle.definition.specs.Bus.{byteAt}
-use Rattle.blocks.specs.Bytes.{wordAt}
+use Rattle.fields.specs.Bytes.{wordAt}
 
 -- the same bytes, and as many of them
 unfoldable pub sameBytes : List ℕ → List ℕ → Bool

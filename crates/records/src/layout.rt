@@ -4,7 +4,7 @@ ghost use Prim.Native.Nat.{_+_, _*_, _≤_};
 ghost use lib.ListN.{length};
 ghost use Rattle.records.specs.Record.{memoryLength, listed, changed, memoryFrom};
 use crate::slices::patch;
-use blocks::bytes::word_at;
+use fields::bytes::word_at;
 use shapes::window::clear;
 
 pub fn memory_length(item: &[u8]) -> usize

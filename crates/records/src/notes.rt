@@ -8,7 +8,7 @@ use crate::layout::lay;
 use crate::layout::listed;
 use crate::layout::memory_length;
 use crate::layout::wide;
-use blocks::bytes::word_at;
+use fields::bytes::word_at;
 use memory::interrupts::peek_next_interrupt;
 use sm83::addr::Addr;
 

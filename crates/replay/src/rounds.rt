@@ -4,7 +4,7 @@ ghost use mathlib.Core.Bool.{not};
 ghost use Prim.Native.Nat.{_+_, _≤_};
 ghost use Rattle.sm83.specs.Basics.{bit};
 ghost use Rattle.sample.specs.Replay.{agrees, differs};
-use blocks::bytes::word_at;
+use fields::bytes::word_at;
 use libc::STDOUT_FILENO;
 use records::layout::wide;
 use records::notes::note;

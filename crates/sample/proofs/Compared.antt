@@ -8,7 +8,7 @@ use lib.Dec.{eqb}
 use lib.ListN.{length, take, drop, replicate, drop-of-length-le, length-drop}
 use lib.Seq.{take-length, length-take-le}
 use Rattle.definition.specs.Bus.{byteAt}
-use Rattle.blocks.specs.Bytes.{wordAt}
+use Rattle.fields.specs.Bytes.{wordAt}
 use Rattle.calls.specs.Left.{Left, left, runBlocks, LeftByScreen, leftByScreen, screenBlocks}
 use Rattle.records.specs.Bytes.{sameBytes, part, patched}
 use Rattle.records.specs.Record.{kindOf, listed, changed, memoryFrom}

@@ -9,7 +9,7 @@ use lib.ListN.{length, take, drop, length-drop}
 use lib.Seq.{drop-drop}
 use borrow.Author.Tests.{eq-eqb, ne-eqb, le-leb, lt-leb}
 use Rattle.sm83.specs.Basics.{bit}
-use Rattle.blocks.specs.Bytes.{wordAt}
+use Rattle.fields.specs.Bytes.{wordAt}
 use Rattle.records.specs.Bytes.{part}
 use Rattle.sample.specs.Replay.{agrees, frontSize, differing, differs}
 

@@ -9,7 +9,7 @@ use lib.Seq.{getD-drop}
 use borrow.Author.Tests.{eq-eqb, ne-eqb, le-leb, lt-leb}
 use Rattle.sm83.specs.Basics.{word}
 use Rattle.definition.specs.Bus.{byteAt}
-use Rattle.blocks.specs.Bytes.{wordAt}
+use Rattle.fields.specs.Bytes.{wordAt}
 use Rattle.records.specs.Record.{kindOf, nameLength, memoryLength, listed, changed}
 use Rattle.sample.specs.Told.{asked, told, sameLeft, askedScreen, toldScreen, sameScreen}
 use Rattle.records.proofs.Within.{within}

@@ -5,7 +5,7 @@ use Prim.Native.Nat.{ℕ, zero, suc, _+_, _*_}
 use lib.Dec.{eqb, leb}
 use lib.ListN.{length, take, drop}
 use Rattle.sm83.specs.Basics.{if_then_else_, bit}
-use Rattle.blocks.specs.Bytes.{wordAt}
+use Rattle.fields.specs.Bytes.{wordAt}
 use Rattle.records.specs.Record.{kindOf, nameLength, memoryLength, listed, changed}
 use Rattle.sample.specs.Told.{asked, told, sameLeft, askedScreen, toldScreen, sameScreen}
 

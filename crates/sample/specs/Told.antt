@@ -6,7 +6,7 @@ use lib.Dec.{eqb}
 use lib.ListN.{replicate}
 use Rattle.sm83.specs.Basics.{if_then_else_}
 use Rattle.definition.specs.Bus.{byteAt}
-use Rattle.blocks.specs.Bytes.{wordAt}
+use Rattle.fields.specs.Bytes.{wordAt}
 use Rattle.calls.specs.Left.{Left, left, runBlocks, LeftByScreen, leftByScreen, screenBlocks}
 use Rattle.records.specs.Bytes.{sameBytes, part, patched}
 use Rattle.records.specs.Record.{kindOf, listed, changed, memoryFrom}

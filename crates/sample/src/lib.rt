@@ -5,7 +5,7 @@ ghost use lib.ListN.{length, drop};
 ghost use Rattle.sample.specs.Replay.{agrees, frontSize};
 use crate::runs::run_agrees;
 use crate::windows::window_agrees;
-use blocks::bytes::word_at;
+use fields::bytes::word_at;
 use records::layout::memory_length;
 
 pub mod runs;

@@ -6,7 +6,7 @@ ghost use Rattle.calls.specs.Left.{left, runBlocks};
 ghost use Rattle.records.specs.Record.{memoryLength, changed};
 ghost use Rattle.sample.specs.Told.{budgetOf, changesAt, asked, told, sameLeft};
 ghost use Rattle.sample.specs.Replay.{agreesRun};
-use blocks::bytes::word_at;
+use fields::bytes::word_at;
 use library::phk_run;
 use library::phk_step;
 use records::layout::changed;

@@ -5,7 +5,7 @@ ghost use lib.ListN.{length};
 ghost use Rattle.records.specs.Record.{memoryLength, listed, changed};
 ghost use Rattle.sample.specs.Told.{marksEnd, askedScreen, toldScreen, sameScreen};
 ghost use Rattle.sample.specs.Replay.{agreesWindow};
-use blocks::bytes::word_at;
+use fields::bytes::word_at;
 use library::phk_screen;
 use records::layout::changed;
 use records::layout::lay;

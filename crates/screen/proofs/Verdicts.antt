@@ -10,7 +10,7 @@ use Rattle.sm83.specs.declared.outcome.Verdict.{Verdict}
 use Rattle.sm83.specs.declared.outcome.Verdict.the-variants.{Passes, Refused, RefusedAt}
 use Rattle.sm83.proofs.outcome.Verdict.{the-type}
 use Rattle.routine.specs.Screen.{firstOf}
-use Rattle.screen.specs.Parts.{settled}
+use Rattle.walks.specs.Parts.{settled}
 
 pub passes : (v : Verdict) → tagOf the-type v ≡ 0 → v ≡ Passes
 passes Passes e = refl

@@ -11,7 +11,7 @@ use Rattle.sm83.specs.declared.outcome.Verdict.the-variants.{Passes, Refused, R
 use Rattle.routine.specs.Screen.{walk, scan, marksOf, isMarked, landsWell, marksAfter, verdict, Screened, screen}
 use Rattle.routine.proofs.Marks.{marks-length}
 use Rattle.routine.proofs.Before.{Early, Admitted, refuses, admits}
-use Rattle.screen.specs.Parts.{Inside, fallsFrom, straysFrom, settled, Walked, Judged}
+use Rattle.walks.specs.Parts.{Inside, fallsFrom, straysFrom, settled, Walked, Judged}
 use Rattle.screen.proofs.Verdicts.{third, not-third}
 
 -- the marks as the walk wants them

@@ -2,13 +2,13 @@
 ghost use mathlib.Core.Path.{_≡_};
 ghost use lib.ListN.{length};
 ghost use Rattle.routine.specs.Screen.{verdict, screen};
-ghost use Rattle.screen.specs.Parts.{Inside, settled, Judged};
-use crate::jumps::strays;
-use crate::walk::walk;
+ghost use Rattle.walks.specs.Parts.{Inside, settled, Judged};
 use shapes::window::clear;
 use sm83::addr::Addr;
 use sm83::outcome::Refusal;
 use sm83::outcome::Verdict;
+use walks::jumps::strays;
+use walks::walk::walk;
 
 const LONGEST_WINDOW: usize = 4096;
 

@@ -1,3 +1,2 @@
 -- The stages of a step, by the points of 01.
-pub mod Fetching
 pub mod Stepping

@@ -1,4 +1,3 @@
-// The stages of `next_instruction` that ask no instruction to be executed: waking, taking an interrupt, fetching.
-pub mod fetch;
+// The stages of `next_instruction` before an instruction is fetched: waking, and taking an interrupt.
 pub mod halt;
 pub mod interrupts;

@@ -2,7 +2,7 @@
 use borrow.Author.Needs.{needs}
 use mathlib.Core.Path.{sym}
 use Rattle.answers.specs.AnswerBlock.{answerFields}
-use Rattle.blocks.proofs.Filled.{left-alone}
+use Rattle.fields.proofs.Filled.{left-alone}
 use Rattle.answers.proofs.Answered.{answered}
 use Rattle.answers.proofs.answer.write_answer.Statement.{statement}
 use Rattle.answers.proofs.answer.write_answer.Tie as tie

@@ -4,8 +4,8 @@ use mathlib.Core.Path.{sym}
 use native.Mathlib.Omega.{arith}
 use lib.ListN.{length-set}
 use Rattle.answers.specs.ScreenBlock.{verdictFields}
-use Rattle.blocks.proofs.Stores.{filling}
-use Rattle.blocks.proofs.Filled.{left-alone}
+use Rattle.fields.proofs.Stores.{filling}
+use Rattle.fields.proofs.Filled.{left-alone}
 use Rattle.answers.proofs.screen.write_verdict.Statement.{statement}
 use Rattle.answers.proofs.screen.write_verdict.Tie as tie
 

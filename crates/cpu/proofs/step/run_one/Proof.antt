@@ -4,7 +4,7 @@ use mathlib.Core.Path.{sym, subst, _∙_}
 use lib.Dec.{T}
 use Rattle.instruction.specs.declared.instruction.Instruction.{Instruction}
 use Rattle.mirror.specs.Runnable.{runnable}
-use Rattle.stages.proofs.Fetching.{executes}
+use Rattle.fetching.proofs.Fetching.{executes}
 use Rattle.cpu.proofs.step.run_one.Statement.{statement}
 use Rattle.cpu.proofs.step.run_one.Tie as tie
 

@@ -7,7 +7,7 @@ use native.Mathlib.Omega.{arith}
 use lib.ListN.{length}
 use Rattle.sm83.specs.Basics.{bit}
 use Rattle.picture.specs.declared.counts.Counts.{Counts}
-use Rattle.picture.specs.Opcode.{isJump}
+use Rattle.reading.specs.Opcode.{isJump}
 use Rattle.picture.specs.Counts.{startsAt, jumpsAt, howMany, countsOf}
 use Rattle.picture.proofs.Counting.{none, bounded, one-more}
 use Rattle.picture.proofs.counts.count.Statement.{statement}

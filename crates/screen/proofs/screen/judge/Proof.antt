@@ -3,7 +3,7 @@ use mathlib.Core.Path.{subst}
 use Prim.Native.Nat.{ℕ}
 use borrow.Author.Needs.{needs}
 use lib.ListN.{length}
-use Rattle.screen.specs.Parts.{Judged}
+use Rattle.walks.specs.Parts.{Judged}
 use Rattle.screen.proofs.Verdicts.{passes, refuses}
 use Rattle.screen.proofs.Whole.{fresh, judged-by-10, judged-before}
 use Rattle.screen.proofs.screen.judge.Statement.{statement}

@@ -1,0 +1,2 @@
+-- What a fetch leaves to be executed.
+pub mod Fetching

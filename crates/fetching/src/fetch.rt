@@ -1,0 +1,94 @@
+// Points 5 and 6: the EI latch, the fetch, and the end of HaltBug.
+ghost use mathlib.Core.Path.{_≡_};
+ghost use lib.Dec.{T};
+ghost use lib.ListN.{length};
+ghost use Rattle.definition.specs.Step.{enabled};
+ghost use Rattle.instruction.specs.Entry.{rowAt, Plain, Prefixed};
+ghost use Rattle.mirror.specs.Runnable.{runnable};
+ghost use Rattle.stages.specs.Stages.{unbugged, Fetches};
+use accesses::fetch::fetch_next_pc;
+use memory::Port;
+use sm83::addr::Addr;
+use sm83::state::Cpu;
+use stages::halt::is_bug;
+use stages::halt::not_halting;
+
+// The table's entry for what is to be executed, the byte that it stands at, and from where it was fetched.
+pub struct Fetched {
+    pub cpu: Cpu,
+    pub port: Port,
+    pub entry: u32,
+    pub byte: u8,
+    pub at: Addr,
+}
+
+// 5. The EI latch goes into IME.
+pub fn enable(cpu: Cpu) -> Cpu
+    ensures { λ r. ⌜ r ≡ enabled cpu ⌝ }
+{
+    let mut c = cpu;
+    c.ime = cpu.ime | cpu.latch;
+    c.latch = false;
+    c
+}
+
+// 6. HaltBug ends after the fetch, and PC goes back.
+pub fn unbug(cpu: Cpu, at: Addr) -> Cpu
+    ensures { λ r. ⌜ r ≡ unbugged cpu (at .0) ⌝ }
+{
+    let halt = cpu.halt;
+    let bug = is_bug(halt);
+    if bug {
+        let mut regs = cpu.registers;
+        regs.pc = at;
+        let mut c = cpu;
+        c.registers = regs;
+        not_halting(c)
+    } else {
+        cpu
+    }
+}
+
+// 5 and 6. After 0xCB another byte says what is to be done.
+pub fn fetch_entry(
+    cpu: Cpu,
+    port: Port,
+    plain: &[u32; 256],
+    prefixed: &[u32; 256],
+    mem: &mut [u8],
+) -> Fetched
+    requires { ⌜ length (now mem) ≡ 65536 ⌝ }
+    requires { ⌜ Plain (now plain) ⌝ }
+    requires { ⌜ Prefixed (now prefixed) ⌝ }
+    ensures { λ r. ⌜ Fetches cpu port (now (mem .entry)) (r .at .0) (rowAt (r .entry) (r .byte)) (r .cpu) (r .port) (now (mem .exit)) × T (runnable (rowAt (r .entry) (r .byte))) × (length (now (mem .exit)) ≡ 65536) ⌝ }
+{
+    let c = enable(cpu);
+    let regs = c.registers;
+    let at = regs.pc;
+    let x = fetch_next_pc(c, port, mem);
+    let d = x.cpu;
+    let p = x.port;
+    let b = x.value;
+    let s = unbug(d, at);
+    if b == 0xcb {
+        let y = fetch_next_pc(s, p, mem);
+        let e = y.cpu;
+        let q = y.port;
+        let second = y.value;
+        Fetched {
+            cpu: e,
+            port: q,
+            entry: prefixed[second as usize],
+            byte: second,
+            at: at,
+        }
+    } else {
+        Fetched {
+            cpu: s,
+            port: p,
+            entry: plain[b as usize],
+            byte: b,
+            at: at,
+        }
+    }
+}

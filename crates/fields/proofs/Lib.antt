@@ -1,0 +1,3 @@
+-- What a run of stores leaves.
+pub mod Filled
+pub mod Stores

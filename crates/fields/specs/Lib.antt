@@ -1,0 +1,3 @@
+-- Bytes at offsets.
+pub mod Bytes
+pub mod Registers

@@ -1,0 +1,2 @@
+// Words, counts and registers at fixed offsets of a lent slice, low byte first.
+pub mod bytes;

@@ -1,0 +1,3 @@
+// A byte of memory, and of an opcode its length and whether it is a jump.
+pub mod byte;
+pub mod opcode;

@@ -1,2 +1,0 @@
--- What the contracts of the screen's parts cite.
-pub mod Parts

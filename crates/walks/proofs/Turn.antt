@@ -1,0 +1,51 @@
+-- One turn of the walk in code: what it does with the shape that it read, by the class's own test.
+use mathlib.Core.Path.{_≡_, ap, subst⁻¹, _∙_}
+use mathlib.Core.Bool.{Bool, true, false}
+use mathlib.Core.List.{List}
+use Prim.Native.Nat.{ℕ, _+_, _-_, _≤_, _<_}
+use native.Mathlib.Omega.{arith}
+use lib.ListN.{set}
+use Rattle.sm83.specs.declared.addr.Addr.{Addr}
+use Rattle.sm83.specs.declared.outcome.Refusal.the-variants.{ForbiddenOpcode, PastTheEnd}
+use Rattle.sm83.specs.declared.outcome.Verdict.the-variants.{RefusedAt}
+use Rattle.sm83.specs.State.{addr}
+use Rattle.routine.specs.Flow.{instructionAt, flowAt, isForbidden}
+use Rattle.shapes.specs.declared.class.Shape.{Shape}
+use Rattle.shapes.specs.Class.{shapeOf, flowOfClass}
+use Rattle.walks.specs.Parts.{Walked}
+use Rattle.shapes.proofs.Classes.{class-test}
+use Rattle.walks.proofs.Steps.{lengthAt}
+use Rattle.walks.proofs.Reached.{Reached, found-7, found-8, onward, stopped}
+
+-- what a turn knows: how far the walk has come, where it stands, the shape that it read there, and whether that is forbidden
+pub record Turn (m : List ℕ) (first n at last : ℕ) (marks : List ℕ) (here : Addr) (s : Shape) (forbidden : Bool) : Type 0 where
+  pub reached : Reached m first n at last marks
+  pub more : at < n
+  pub there : here ≡ addr (first + at)
+  pub read : s ≡ shapeOf (instructionAt m (here .0))
+  pub told : (p u v : ℕ) → forbidden ≡ isForbidden (flowOfClass (s .1) p u v)
+
+module _ {m : List ℕ} {first n at last : ℕ} {marks : List ℕ} {here : Addr} {s : Shape} {forbidden : Bool} (turn : Turn m first n at last marks here s forbidden) where
+  shape-there : s ≡ shapeOf (instructionAt m (first + at))
+  shape-there = turn .read ∙ ap (λ (h : Addr). shapeOf (instructionAt m (h .0))) (turn .there)
+
+  length-there : s .0 ≡ lengthAt m (first + at)
+  length-there = ap (λ (t : Shape). t .0) shape-there
+
+  is-forbidden : isForbidden (flowAt m (first + at)) ≡ forbidden
+  is-forbidden = class-test m (first + at) s shape-there isForbidden forbidden (turn .told)
+
+  pub some-length : 0 < s .0
+  some-length = omega (arith, length-there)
+
+  pub turn-7 : forbidden ≡ true → Walked m first n (RefusedAt ForbiddenOpcode here) marks
+  turn-7 bad = subst⁻¹ (λ (h : Addr). Walked m first n (RefusedAt ForbiddenOpcode h) marks) (turn .there) (stopped m first n ForbiddenOpcode (first + at) marks (found-7 m first n (turn .reached) (turn .more) (is-forbidden ∙ bad)))
+
+  module _ (ok : forbidden ≡ false) where
+    pub turn-8 : n - at < s .0 → Walked m first n (RefusedAt PastTheEnd here) marks
+    turn-8 far = subst⁻¹ (λ (h : Addr). Walked m first n (RefusedAt PastTheEnd h) marks) (turn .there) (stopped m first n PastTheEnd (first + at) marks (found-8 m first n (turn .reached) (turn .more) (is-forbidden ∙ ok) (omega (arith, length-there))))
+
+    pub turn-on : s .0 ≤ n - at → Reached m first n (at + s .0) (here .0) (set marks at 1)
+    turn-on fits =
+        subst⁻¹ (λ (k : ℕ). Reached m first n (at + k) (here .0) (set marks at 1)) length-there
+        (subst⁻¹ (λ (h : Addr). Reached m first n (at + lengthAt m (first + at)) (h .0) (set marks at 1)) (turn .there) (onward m first n (turn .reached) (turn .more) (is-forbidden ∙ ok) (omega (arith, length-there))))

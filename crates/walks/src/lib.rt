@@ -1,0 +1,3 @@
+// The screen's two passes over a window: its instructions in turn, then the targets of its jumps.
+pub mod jumps;
+pub mod walk;
