@@ -1,8 +1,3 @@
 -- What the tool says.
-pub mod Sentence
-pub mod Mistake
-pub mod Registers
-pub mod Lines
+pub mod Form
 pub mod Cells
-pub mod Files
-pub mod Steps

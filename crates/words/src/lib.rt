@@ -1,8 +1,3 @@
-// What the tool says: sentences chosen by number, and lines of numbers, written to a lent slice.
-pub mod files;
-pub mod lines;
-pub mod mistake;
-pub mod registers;
-pub mod sentence;
+// What the tool says of numbers and words: forms that are filled in; and what its map shows of a byte.
+pub mod form;
 pub mod shape;
-pub mod steps;
