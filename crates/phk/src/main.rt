@@ -3,8 +3,11 @@
 mod file;
 mod help;
 mod machine;
+mod mistakes;
+mod page;
 mod said;
 mod screening;
+mod sentences;
 
 use command::line::ASKS_HELP;
 use command::line::HELP;

@@ -1,7 +1,7 @@
 // What the launcher told the program, and what the program tells it: its last word, on descriptor 3.
-ghost use Rattle.io.specs.Counts.{Counts};
+use crate::mistakes;
+use crate::page::within;
 use command::line::Line;
-use words::lines::put_mistake_line;
 
 pub const DONE: u8 = 0;
 
@@ -61,22 +61,6 @@ pub fn told() -> Env {
     env_in(&word[..n])
 }
 
-// At most the page's length.
-pub fn within(out: &[u8], n: usize) -> usize
-    ensures { λ r. ⌜ Counts r (now (out .entry)) ⌝ }
-{
-    if n <= out.len() {
-        return n;
-    }
-    out.len()
-}
-
-// The first n bytes of a page.
-pub fn say(fd: i32, out: &[u8], n: usize) {
-    let k = within(out, n);
-    io::write_all(fd, &out[..k]);
-}
-
 pub fn mistake(line: Line) {
     let mut word = io::buffer();
     let k = os::arg(line.word, &mut word);
@@ -90,7 +74,6 @@ pub fn mistake(line: Line) {
 
 // Mistakes 1 to 5 and 7 are about the word itself, the others about what it stands for.
 fn mistake_in(word: &[u8], n: usize, slot: u8, wrong: u8) {
-    let mut out = io::buffer();
     let mut named = true;
     if wrong < 6 {
         named = false;
@@ -99,8 +82,7 @@ fn mistake_in(word: &[u8], n: usize, slot: u8, wrong: u8) {
         named = false;
     }
     let n = within(word, n);
-    let k = put_mistake_line(&mut out, 0, named, slot, &word[..n], wrong);
-    say(2, &out, k);
+    mistakes::mistake(named, slot, &word[..n], wrong);
 }
 
 pub fn last_word(env: Env, status: u8) {

@@ -1,9 +1,9 @@
 // phk screen: the verdict, the marks and the map.
 use crate::file::number;
+use crate::page::within;
 use crate::said;
 use crate::said::Env;
-use crate::said::say;
-use crate::said::within;
+use crate::sentences;
 use command::line::FIRST;
 use command::line::LAST;
 use command::line::Line;
@@ -12,15 +12,8 @@ use command::line::MARKS;
 use screen::screen::screen;
 use sm83::addr::Addr;
 use sm83::outcome::Verdict;
-use words::lines::put_cell;
-use words::lines::put_passes;
-use words::lines::put_refused;
-use words::lines::put_refused_whole;
 use words::shape::cell_of;
 use words::shape::is_jump;
-use words::shape::length_of;
-use words::steps::put_marked;
-use words::steps::put_row;
 
 // A byte of memory; addresses wrap.
 pub fn byte(mem: &[u8], a: u16) -> u8 {
@@ -83,18 +76,7 @@ fn count_all(mem: &[u8], marks: &[u8], first: u16, length: u16) -> Counts {
 
 fn print_start(mem: &[u8], marks: &[u8], first: u16, a: u16) {
     if mark(marks, index_of(a, first)) {
-        let mut out = [0u8; 64];
-        let b = byte(mem, a);
-        let n = put_marked(
-            &mut out,
-            0,
-            a,
-            length_of(b),
-            b,
-            byte(mem, after(a, 1)),
-            byte(mem, after(a, 2)),
-        );
-        say(1, &out, n);
+        sentences::start(mem, a);
     }
 }
 
@@ -124,31 +106,21 @@ fn map_byte(
     colour: bool,
     walk: Walk,
 ) -> Walk {
-    let mut out = [0u8; 64];
     if walk.ended {
-        let n = put_cell(&mut out, 0, 0, colour);
-        say(1, &out, n);
+        sentences::cell(0, colour);
         return walk;
     }
     let cell = cell_of(walk.left, byte(mem, a));
     let here = found & (a == bad);
     if here {
-        let n = put_cell(&mut out, 0, 4, colour);
-        say(1, &out, n);
+        sentences::cell(4, colour);
     } else {
-        let n = put_cell(&mut out, 0, cell.kind, colour);
-        say(1, &out, n);
+        sentences::cell(cell.kind, colour);
     }
     Walk {
         left: cell.left,
         ended: here & ends,
     }
-}
-
-fn row_start(a: u16) {
-    let mut out = [0u8; 64];
-    let n = put_row(&mut out, 0, a);
-    say(1, &out, n);
 }
 
 fn row_end(more: bool) {
@@ -167,7 +139,7 @@ fn print_map(mem: &[u8], first: u16, length: u16, bad: u16, found: bool, ends: b
     let mut column: u8 = 0;
     while 0 < left {
         if column == 0 {
-            row_start(a);
+            sentences::row(a);
         }
         walk = map_byte(mem, a, bad, found, ends, colour, walk);
         a = after(a, 1);
@@ -178,43 +150,12 @@ fn print_map(mem: &[u8], first: u16, length: u16, bad: u16, found: bool, ends: b
     row_end(column != 0);
 }
 
-fn legend() {
-    io::write_all(
-        1,
-        b"I instruction start   . operand byte   J jump   X refused here   - not reached\n",
-    );
-}
-
 fn print_passes(line: Line, mem: &[u8], marks: &[u8], first: u16, last: u16, length: u16) {
-    let mut out = [0u8; 128];
     let c = count_all(mem, marks, first, length);
-    let n = put_passes(&mut out, 0, first, last, c.instructions, c.jumps);
-    say(1, &out, n);
+    sentences::passes(first, last, c.instructions, c.jumps);
     if line.slot_of(MARKS) != 0 {
         print_starts(mem, marks, first, length);
     }
-}
-
-fn print_refused(mem: &[u8], number: u8, a: u16) {
-    let mut out = [0u8; 512];
-    let b = byte(mem, a);
-    let n = put_refused(
-        &mut out,
-        0,
-        number,
-        a,
-        length_of(b),
-        b,
-        byte(mem, after(a, 1)),
-        byte(mem, after(a, 2)),
-    );
-    say(1, &out, n);
-}
-
-fn print_refused_whole(number: u8) {
-    let mut out = [0u8; 512];
-    let n = put_refused_whole(&mut out, 0, number);
-    say(1, &out, n);
 }
 
 fn judged(
@@ -234,19 +175,19 @@ fn judged(
             print_passes(line, mem, marks, first, last, length);
             if map {
                 print_map(mem, first, length, 0, false, false, colour);
-                legend();
+                sentences::legend();
             }
             said::DONE
         }
         Verdict::Refused(_) => {
-            print_refused_whole(number);
+            sentences::refused(number);
             said::REFUSED
         }
         Verdict::RefusedAt(_, at) => {
-            print_refused(mem, number, at.0);
+            sentences::refused_at(mem, number, at.0);
             if map {
                 print_map(mem, first, length, at.0, true, number < 9, colour);
-                legend();
+                sentences::legend();
             }
             said::REFUSED
         }
@@ -258,7 +199,7 @@ pub fn screening(line: Line, mem: &[u8], env: Env) -> u8 {
     let last = number(line.slot_of(LAST));
     let span = std::num::wrapping_sub_u16(last, first);
     if 4095 < span {
-        print_refused_whole(5);
+        sentences::refused(5);
         return said::REFUSED;
     }
     let length = span + 1;
