@@ -1,14 +1,14 @@
 -- What one word says, and the end of the line. The mistakes: 1 no command, 2 an unknown one, 3 an unknown option, 4 an option that the command
 -- does not have, 5 an option given twice, 6 its value is missing, 7 a word too many, 8 a word missing, 9 an unknown state, 10 a window the
--- wrong way round, 21 to 26 a bad number (`text`), 27 an address above FFFF. The first mistake stays.
+-- wrong way round, 21 to 26 a bad number (`number`), 27 an address above FFFF. The first mistake stays.
 use mathlib.Core.Bool.{Bool, true, false, _&&_, _||_, not}
 use mathlib.Core.List.{List}
 use Prim.Native.Nat.{ℕ, _+_}
 use lib.Dec.{eqb, ltb, leb}
 use lib.ListN.{length, getD}
-use Rattle.text.specs.declared.number.Reading.{Reading}
+use Rattle.number.specs.declared.Reading.{Reading}
 use Rattle.text.specs.Page.{choose}
-use Rattle.text.specs.Number.{numberIn}
+use Rattle.number.specs.Number.{numberIn}
 use Rattle.command.specs.declared.line.Line.{Line}
 use Rattle.command.specs.Line.{line, slotOf, stored, mistaken, awaiting}
 use Rattle.command.specs.Names.{commandNumber, optionNumber, stateNumber}

@@ -17,9 +17,9 @@ use crate::line::VERSION;
 use crate::names::command_number;
 use crate::names::option_number;
 use crate::names::state_number;
-use text::number::number_in;
+use number::number_in;
 
-// The mistakes. 21 to 26 are those of a number (`text::number`).
+// The mistakes. 21 to 26 are those of a number (`number`).
 pub const NO_COMMAND: u8 = 1;
 
 pub const UNKNOWN_COMMAND: u8 = 2;

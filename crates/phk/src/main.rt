@@ -67,7 +67,7 @@ fn main() {
     let line = read_words(env.first);
     let wrong = line.wrong;
     if wrong != 0 {
-        said::mistake(line);
+        mistakes::mistake(line);
         said::last_word(env, said::BAD_USAGE);
         return;
     }

@@ -1,9 +1,8 @@
 // What the tool says of files that it cannot read or write and of a bad command line: each sentence once, as in `sentences`.
 use crate::page::fail;
 use crate::page::print;
-use crate::page::say;
+use command::line::Line;
 use lines::line_of;
-use words::form::fill;
 
 pub fn unreadable(path: &[u8]) {
     fail(b"phk: IMAGE '@', expected a file that can be read", path);
@@ -16,47 +15,53 @@ pub fn unwritable(path: &[u8]) {
     );
 }
 
+fn first_or_second(second: bool) -> usize {
+    if second { 1 } else { 0 }
+}
+
+fn bytes(count: u64) {
+    let form = line_of(b"% bytes\n% byte", first_or_second(count == 1));
+    print(2, form, &[count], b"");
+}
+
 // An image that is too short, and no --at says where it lies.
 pub fn too_short(path: &[u8], length: u64) {
-    print(
+    print(2, b"phk: IMAGE '@': ", &[], path);
+    bytes(length);
+    io::write_all(
         2,
-        b"phk: IMAGE '@': % bytes, expected 65536; say with --at ADDRESS where a part of memory lies\n",
-        &[length],
-        path,
+        b", expected 65536; say with --at ADDRESS where a part of memory lies\n",
     );
 }
 
 // An image that goes past the last address.
 pub fn too_long(path: &[u8], room: u64) {
-    print(
-        2,
-        b"phk: IMAGE '@': too long, expected at most % bytes up to address FFFF\n",
-        &[room],
-        path,
-    );
+    print(2, b"phk: IMAGE '@': too long, expected at most ", &[], path);
+    bytes(room);
+    io::write_all(2, b" up to address FFFF\n");
 }
 
 // An image that is a part of memory.
 pub fn part(path: &[u8], length: u64, from: u16) {
+    print(2, b"phk: IMAGE '@': ", &[], path);
+    bytes(length);
     print(
         2,
-        b"phk: IMAGE '@': % bytes at #; every other byte of memory is 0\n",
-        &[length, from as u64],
-        path,
+        b" at #; every other byte of memory is 0\n",
+        &[from as u64],
+        b"",
     );
 }
 
-fn first_or_second(second: bool) -> usize {
-    if second { 1 } else { 0 }
+// What a person wrote, between quotes; nothing if it is empty.
+fn quoted(word: &[u8]) {
+    if 0 < word.len() {
+        print(2, b" '@'", &[], word);
+    }
 }
 
-// A mistake in the command line: what the word stands for, if that is known, the word, unless it is empty, and what was expected.
-pub fn mistake(named: bool, slot: u8, word: &[u8], wrong: u8) {
-    let name = line_of(
-        b"IMAGE\nFIRST\nLAST\n--at\n--state\n--pc\n--sp\n--steps\n--out\n--marks\n--map\n--trace\n--help",
-        slot as usize,
-    );
-    let expected = line_of(
+fn expected(wrong: u8) {
+    let text = line_of(
         b"
 no command was given; expected screen, run, step, version or help
 is no command; expected screen, run, step, version or help
@@ -87,12 +92,45 @@ this number is too large; expected at most 4294967295
 this address is too large; expected at most 0xFFFF, which is 65535",
         wrong as usize,
     );
-    let known = first_or_second(named);
-    let some = first_or_second(0 < word.len());
-    let mut out = io::large_buffer();
-    let at = fill(&mut out, 0, line_of(b"phk:\nphk: @", known), &[], name);
-    let at = fill(&mut out, at, line_of(b"\n '@'", some), &[], word);
-    let at = fill(&mut out, at, line_of(b" @\n: @", known), &[], expected);
-    let at = fill(&mut out, at, b"\n", &[], b"");
-    say(2, &out, at);
+    print(2, b" @\n", &[], text);
+}
+
+// The word, as what it stands for.
+fn named(slot: u8, word: &[u8]) {
+    let name = line_of(
+        b"IMAGE\nFIRST\nLAST\n--at\n--state\n--pc\n--sp\n--steps\n--out\n--marks\n--map\n--trace\n--help",
+        slot as usize,
+    );
+    print(2, b" @", &[], name);
+    quoted(word);
+    io::write_all(2, b":");
+}
+
+// Mistakes 1 to 5 and 7 are about the word itself, the others about what it stands for.
+fn about_the_word(wrong: u8) -> bool {
+    (wrong < 6) | (wrong == 7)
+}
+
+fn mistake_in(slot: u8, word: &[u8], wrong: u8) {
+    io::write_all(2, b"phk:");
+    if about_the_word(wrong) {
+        quoted(word);
+    } else {
+        named(slot, word);
+    }
+    expected(wrong);
+}
+
+// The first mistake of a command line: the word, if there is one, and what was expected.
+pub fn mistake(line: Line) {
+    let index = line.word;
+    let slot = line.slot;
+    let wrong = line.wrong;
+    if index == 0 {
+        mistake_in(slot, b"", wrong);
+    } else {
+        let mut word = io::buffer();
+        let n = os::arg(index, &mut word);
+        mistake_in(slot, &word[..n], wrong);
+    }
 }

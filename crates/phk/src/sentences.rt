@@ -126,11 +126,13 @@ pub fn report(steps: u64, cycles: u64, registers: CpuRegisters) {
 pub fn interrupts(on: bool, soon: bool) {
     if on {
         io::write_all(1, b"interrupts on\n");
-    } else if soon {
-        io::write_all(1, b"interrupts off, on after the next instruction\n");
-    } else {
-        io::write_all(1, b"interrupts off\n");
+        return;
     }
+    io::write_all(1, b"interrupts off");
+    if soon {
+        io::write_all(1, b", on after the next instruction");
+    }
+    end_line();
 }
 
 pub fn accesses(cycles: u64) {
@@ -160,8 +162,6 @@ pub fn put_traced(out: &mut [u8], mem: &[u8], a: u16) -> usize {
 
 // What a traced step did, after where it began: the registers before it, its M-cycles and how it ended.
 pub fn traced(out: &mut [u8], at: usize, before: CpuRegisters, cycles: u64, outcome: u16) {
-    let r = values_of(before);
-    let values = [r[0], r[1], r[2], r[3], r[4], r[6], cycles];
     let brief = line_of(
         b"ran
 loops for ever
@@ -185,7 +185,8 @@ refused 2
 refused 3",
         outcome as usize,
     );
-    let n = fill(out, at, b" # # # # # &  %  @\n", &values, brief);
+    let at = fill(out, at, b" # # # # #", &values_of(before), b"");
+    let n = fill(out, at, b" &  %  @\n", &[before.f as u64, cycles], brief);
     say(1, out, n);
 }
 
