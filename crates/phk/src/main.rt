@@ -1,5 +1,5 @@
-// The field tool: phk screen, run, step, version and help. What it says is proved in `words`, what it reads of the command line in
-// `command`; here the files are read and written and the lines are put together.
+// The field tool: phk screen, run, step, version and help. What a form becomes is proved in `words`, what the command line means in
+// `command`; here stand the sentences and the forms, and the files are read and written.
 mod file;
 mod help;
 mod machine;

@@ -74,15 +74,6 @@ it is missing; --help after the command shows where it stands
 no such state; expected dmg, cgb, cgb-dmg or zero
 the window is the wrong way round (refusal 4); expected FIRST not above LAST
 
-
-
-
-
-
-
-
-
-
 an empty word is no number; expected one such as 336 or 0x0150
 this is no number; expected a decimal one such as 336 or a hexadecimal one such as 0x0150
 an h marks no number here; write hexadecimal with 0x in front, as 0x0150
