@@ -212,37 +212,46 @@ fn print_changes(old: &[u8], mem: &[u8]) -> bool {
     some
 }
 
-fn saved(line: Line, mem: &[u8], env: Env, status: u8) -> u8 {
-    let slot = line.slot_of(OUT);
+// The memory as it stands at the end, if --out was given.
+fn saved(slot: u64, mem: &[u8], tells: bool, status: u8) -> u8 {
     if slot == 0 {
         return status;
     }
-    if file::save(slot, mem, env.tells) {
+    if file::save(slot, mem, tells) {
         status
     } else {
         said::REFUSED
     }
 }
 
-fn budget(line: Line) -> u64 {
-    let slot = line.slot_of(STEPS);
+fn budget(slot: u64) -> u64 {
     if slot == 0 { 65535 } else { slot - 1 }
 }
 
-fn stepping(line: Line, mem: &mut [u8], env: Env, far: Far) -> u8 {
+fn print_all_changes(old: &[u8], mem: &[u8]) {
+    let some = print_changes(old, mem);
+    if !some {
+        sentences::no_change();
+    }
+}
+
+fn stepping(mem: &mut [u8], far: Far) -> u8 {
     let mut old = io::large_buffer();
     text::page::put(&mut old, 0, mem);
     let end = ran(far, mem, 1);
     let status = print_end(end, mem);
     sentences::accesses(end.cycles);
-    let some = print_changes(&old, mem);
-    if !some {
-        sentences::no_change();
-    }
-    saved(line, mem, env, status)
+    print_all_changes(&old, mem);
+    status
 }
 
-pub fn machine(line: Line, mem: &mut [u8], env: Env) -> u8 {
+fn running(line: Line, mem: &mut [u8], progress: bool, far: Far) -> u8 {
+    let trace = line.slot_of(TRACE) != 0;
+    let end = run_all(far, mem, budget(line.slot_of(STEPS)), trace, progress);
+    print_end(end, mem)
+}
+
+fn obeyed(line: Line, mem: &mut [u8], progress: bool) -> u8 {
     let cpu = started(line);
     let far = Far {
         cpu: cpu,
@@ -251,10 +260,12 @@ pub fn machine(line: Line, mem: &mut [u8], env: Env) -> u8 {
         cycles: 0,
     };
     if line.command == STEP {
-        return stepping(line, mem, env, far);
+        return stepping(mem, far);
     }
-    let trace = line.slot_of(TRACE) != 0;
-    let end = run_all(far, mem, budget(line), trace, env.progress);
-    let status = print_end(end, mem);
-    saved(line, mem, env, status)
+    running(line, mem, progress, far)
+}
+
+pub fn machine(line: Line, mem: &mut [u8], env: Env) -> u8 {
+    let status = obeyed(line, mem, env.progress);
+    saved(line.slot_of(OUT), mem, env.tells, status)
 }
