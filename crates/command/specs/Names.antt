@@ -1,29 +1,21 @@
--- The words that the tool knows, by their numbers.
-use mathlib.Core.Bool.{Bool, true, false, _&&_, _||_}
+-- The words that the tool knows: the number of the line that holds a word, 0 if none does.
 use mathlib.Core.List.{List}
 use Prim.Native.Nat.{ℕ}
-use Rattle.text.specs.Page.{ascii}
-use Rattle.text.specs.Word.{pick}
+use lib.Dec.{ltb}
+use Rattle.text.specs.Page.{ascii, choose}
+use Rattle.lines.specs.Lines.{numberOf}
 
--- 0 if it is none
+-- there are twelve numbers at most
+abbrev pub small : ℕ → ℕ
+small n = choose (ltb n 13) n 0
+
 unfoldable pub commandNumber : List ℕ → ℕ
-commandNumber w =
-    pick w (ascii "-h") 5
-    (pick w (ascii "--help") 5
-    (pick w (ascii "help") 5
-    (pick w (ascii "--version") 4 (pick w (ascii "version") 4 (pick w (ascii "step") 3 (pick w (ascii "run") 2 (pick w (ascii "screen") 1 0)))))))
+commandNumber word = small (numberOf (ascii "screen\nrun\nstep\nversion --version\nhelp --help -h") word)
 
--- an option's number is its slot; 0 if it is none
+-- an option's number is its slot; FIRST and LAST, the slots in front, are no options, since they do not begin with -
 unfoldable pub optionNumber : List ℕ → ℕ
-optionNumber w =
-    pick w (ascii "-h") 12
-    (pick w (ascii "--help") 12
-    (pick w (ascii "--trace") 11
-    (pick w (ascii "--map") 10
-    (pick w (ascii "--marks") 9
-    (pick w (ascii "--out") 8
-    (pick w (ascii "--steps") 7
-    (pick w (ascii "--sp") 6 (pick w (ascii "--pc") 5 (pick w (ascii "--state") 4 (pick w (ascii "--at") 3 0))))))))))
+optionNumber word =
+    small (numberOf (ascii "FIRST\nLAST\n--at\n--state\n--pc\n--sp\n--steps\n--out\n--marks\n--map\n--trace\n--help -h") word)
 
 unfoldable pub stateNumber : List ℕ → ℕ
-stateNumber w = pick w (ascii "zero") 4 (pick w (ascii "cgb-dmg") 3 (pick w (ascii "cgb") 2 (pick w (ascii "dmg") 1 0)))
+stateNumber word = small (numberOf (ascii "dmg\ncgb\ncgb-dmg\nzero") word)

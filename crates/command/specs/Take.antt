@@ -1,14 +1,14 @@
 -- What one word says, and the end of the line. The mistakes: 1 no command, 2 an unknown one, 3 an unknown option, 4 an option that the command
 -- does not have, 5 an option given twice, 6 its value is missing, 7 a word too many, 8 a word missing, 9 an unknown state, 10 a window the
--- wrong way round, 21 to 26 a bad number (`text`), 27 an address above FFFF. The first mistake stays.
+-- wrong way round, 12 to 17 a bad number (`number`), 18 an address above FFFF. The first mistake stays.
 use mathlib.Core.Bool.{Bool, true, false, _&&_, _||_, not}
 use mathlib.Core.List.{List}
 use Prim.Native.Nat.{ℕ, _+_}
 use lib.Dec.{eqb, ltb, leb}
 use lib.ListN.{length, getD}
-use Rattle.text.specs.declared.number.Reading.{Reading}
+use Rattle.number.specs.declared.Reading.{Reading}
 use Rattle.text.specs.Page.{choose}
-use Rattle.text.specs.Number.{numberIn}
+use Rattle.number.specs.Number.{numberIn}
 use Rattle.command.specs.declared.line.Line.{Line}
 use Rattle.command.specs.Line.{line, slotOf, stored, mistaken, awaiting}
 use Rattle.command.specs.Names.{commandNumber, optionNumber, stateNumber}
@@ -21,21 +21,19 @@ isPath key = eqb key 0 || eqb key 8
 -- --trace to run alone
 unfoldable pub allows : ℕ → ℕ → Bool
 allows command key =
-    choose (eqb key 12) true
-    (choose (leb 4 command) false
-    (choose (ltb key 4) true
-    (choose (eqb command 1) (eqb key 9 || eqb key 10)
-    (choose (eqb key 9 || eqb key 10) false (choose (eqb key 7 || eqb key 11) (eqb command 2) true)))))
+    eqb key 12
+    || (ltb command 4
+    && ((ltb key 4 || (eqb command 1 && (eqb key 9 || eqb key 10)))
+    || (not (eqb command 1) && not (eqb key 9 || eqb key 10) && (eqb command 2 || not (eqb key 7 || eqb key 11)))))
 
 -- the first slot that a command has for a plain word and the line does not fill: IMAGE, and for screen FIRST and LAST; 13 if there is none
 unfoldable pub missing : Line → ℕ
 missing l =
-    choose (leb 4 (l .command)) 13
-    (choose (eqb (slotOf l 0) 0) 0
-    (choose (ltb 1 (l .command)) 13 (choose (eqb (slotOf l 1) 0) 1 (choose (eqb (slotOf l 2) 0) 2 13))))
+    choose (ltb (l .command) 4 && eqb (slotOf l 0) 0) 0
+    (choose (ltb (l .command) 2 && eqb (slotOf l 1) 0) 1 (choose (ltb (l .command) 2 && eqb (slotOf l 2) 0) 2 13))
 
 abbrev pub numberMistake : ℕ → ℕ
-numberMistake wrong = choose (ltb wrong 7) (20 + wrong) 20
+numberMistake wrong = choose (ltb wrong 7) (11 + wrong) 11
 
 -- 0 is for nothing
 abbrev pub kept : ℕ → ℕ
@@ -44,8 +42,7 @@ kept value = choose (ltb value 4294967296) (value + 1) 0
 abbrev asNumber : Line → ℕ → ℕ → Reading → Line
 asNumber l key index read =
     choose (ltb 0 (read .wrong)) (mistaken l (numberMistake (read .wrong)) key index)
-    (choose (eqb key 7) (stored l key (kept (read .value)))
-    (choose (ltb 65535 (read .value)) (mistaken l 27 key index) (stored l key (kept (read .value)))))
+    (choose (not (eqb key 7) && ltb 65535 (read .value)) (mistaken l 18 key index) (stored l key (kept (read .value))))
 
 -- any number for --steps, an address for the others
 unfoldable pub takeNumber : Line → ℕ → List ℕ → ℕ → Line
@@ -86,8 +83,7 @@ takeWord l word index =
 -- the end of the line
 unfoldable pub finished : Line → Line
 finished l =
-    choose (ltb 0 (l .wrong)) l
-    (choose (ltb 0 (slotOf l 12)) l
+    choose (ltb 0 (l .wrong) || ltb 0 (slotOf l 12)) l
     (choose (ltb 0 (l .awaits)) (mistaken l 6 (l .awaits) 0)
     (choose (eqb (l .command) 0) (mistaken l 1 0 0)
-    (choose (ltb (missing l) 13) (mistaken l 8 (missing l) 0) (choose (ltb (slotOf l 2) (slotOf l 1)) (mistaken l 10 1 0) l)))))
+    (choose (ltb (missing l) 13) (mistaken l 8 (missing l) 0) (choose (ltb (slotOf l 2) (slotOf l 1)) (mistaken l 10 1 0) l))))

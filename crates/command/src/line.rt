@@ -13,6 +13,15 @@ pub const VERSION: u8 = 4;
 
 pub const HELP: u8 = 5;
 
+// The power-on states.
+pub const DMG: u8 = 1;
+
+pub const CGB: u8 = 2;
+
+pub const CGB_DMG: u8 = 3;
+
+pub const ZERO: u8 = 4;
+
 // The slots: what a word stands for.
 pub const IMAGE: u8 = 0;
 
@@ -41,7 +50,7 @@ pub const TRACE: u8 = 11;
 pub const ASKS_HELP: u8 = 12;
 
 // A slot holds 0 if nothing was said, else the number plus 1; of a path and of a state, the word's index and the state's number.
-// `wrong` is the first mistake (`names.rt` has their numbers), `slot` and `word` say where it is.
+// `wrong` is the first mistake (`take.rt` has their numbers), `slot` and `word` say where it is.
 pub struct Line {
     pub command: u8,
     pub awaits: u8,
@@ -74,7 +83,7 @@ impl Line {
     }
 
     // The value of a slot; nothing is awaited any more.
-    pub fn stored(self, key: u8, value: u64) -> Self
+    pub(crate) fn stored(self, key: u8, value: u64) -> Self
         ensures { λ r. ⌜ r ≡ stored self key value ⌝ }
     {
         let mut slots = self.slots;
@@ -93,7 +102,7 @@ impl Line {
         }
     }
 
-    pub fn mistaken(self, wrong: u8, slot: u8, word: usize) -> Self
+    pub(crate) fn mistaken(self, wrong: u8, slot: u8, word: usize) -> Self
         ensures { λ r. ⌜ r ≡ mistaken self wrong slot word ⌝ }
     {
         let slots = self.slots;
@@ -108,7 +117,7 @@ impl Line {
     }
 
     // The next word is the value of this option.
-    pub fn awaiting(self, key: u8) -> Self
+    pub(crate) fn awaiting(self, key: u8) -> Self
         ensures { λ r. ⌜ r ≡ awaiting self key ⌝ }
     {
         let slots = self.slots;

@@ -9,6 +9,7 @@ use crate::line::Line;
 use crate::line::MAP;
 use crate::line::MARKS;
 use crate::line::OUT;
+use crate::line::RUN;
 use crate::line::SCREEN;
 use crate::line::STATE;
 use crate::line::STEPS;
@@ -17,9 +18,9 @@ use crate::line::VERSION;
 use crate::names::command_number;
 use crate::names::option_number;
 use crate::names::state_number;
-use text::number::number_in;
+use number::number_in;
 
-// The mistakes. 21 to 26 are those of a number (`text::number`).
+// The mistakes. 12 to 17 are those of a number (`number`).
 pub const NO_COMMAND: u8 = 1;
 
 pub const UNKNOWN_COMMAND: u8 = 2;
@@ -40,9 +41,9 @@ pub const UNKNOWN_STATE: u8 = 9;
 
 pub const REVERSED: u8 = 10;
 
-pub const BAD_NUMBER: u8 = 20;
+pub const BAD_NUMBER: u8 = 11;
 
-pub const ABOVE_FFFF: u8 = 27;
+pub const ABOVE_FFFF: u8 = 18;
 
 // A path is kept by its word's index.
 fn is_path(key: u8) -> bool
@@ -59,55 +60,31 @@ fn allows(command: u8, key: u8) -> bool
     ensures { λ r. ⌜ r ≡ allows command key ⌝ }
 {
     let help = key == ASKS_HELP;
-    if help {
-        return true;
-    }
-    let other = VERSION <= command;
-    if other {
-        return false;
-    }
+    let known = command < VERSION;
     let at = key < STATE;
-    if at {
-        return true;
-    }
-    let marks = key == MARKS;
-    let map = key == MAP;
-    let screens = marks | map;
+    let screens = (key == MARKS) | (key == MAP);
+    let runs = (key == STEPS) | (key == TRACE);
     let screen = command == SCREEN;
-    if screen {
-        return screens;
-    }
-    if screens {
-        return false;
-    }
-    let steps = key == STEPS;
-    let trace = key == TRACE;
-    let runs = steps | trace;
-    let run = command == 2;
-    if runs { run } else { true }
+    let run = command == RUN;
+    let machine = !screen & !screens & (run | !runs);
+    help | known & (at | screen & screens | machine)
 }
 
 // The first slot that a command has for a plain word and the line does not fill; 13 if there is none.
 fn missing(line: Line) -> u8
     ensures { λ r. ⌜ r ≡ missing line ⌝ }
 {
-    let other = VERSION <= line.command;
-    if other {
-        return 13;
-    }
-    let no_image = line.slot_of(IMAGE) == 0;
+    let known = line.command < VERSION;
+    let screen = line.command < RUN;
+    let no_image = known & (line.slot_of(IMAGE) == 0);
+    let no_first = screen & (line.slot_of(FIRST) == 0);
+    let no_last = screen & (line.slot_of(LAST) == 0);
     if no_image {
         return IMAGE;
     }
-    let not_screen = 1 < line.command;
-    if not_screen {
-        return 13;
-    }
-    let no_first = line.slot_of(FIRST) == 0;
     if no_first {
         return FIRST;
     }
-    let no_last = line.slot_of(LAST) == 0;
     if no_last { LAST } else { 13 }
 }
 
@@ -140,10 +117,7 @@ fn take_number(line: Line, key: u8, word: &[u8], index: usize) -> Line
         return line.mistaken(number_mistake(read.wrong), key, index);
     }
     let steps = key == STEPS;
-    if steps {
-        return line.stored(key, kept(read.value));
-    }
-    let large = 65535 < read.value;
+    let large = !steps & (65535 < read.value);
     if large {
         return line.mistaken(ABOVE_FFFF, key, index);
     }
@@ -271,11 +245,9 @@ pub fn finish(line: Line) -> Line
     ensures { λ r. ⌜ r ≡ finished line ⌝ }
 {
     let bad = 0 < line.wrong;
-    if bad {
-        return line;
-    }
     let helps = 0 < line.slot_of(ASKS_HELP);
-    if helps {
+    let settled = bad | helps;
+    if settled {
         return line;
     }
     let awaits = line.awaits;

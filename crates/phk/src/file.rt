@@ -1,15 +1,10 @@
 // The image is read, and memory is written to a new file that is renamed into place.
-use crate::said::say;
-use crate::said::within;
+use crate::mistakes;
+use crate::page::within;
 use command::line::AT;
 use command::line::IMAGE;
 use command::line::Line;
 use text::page::put;
-use words::files::put_part;
-use words::files::put_too_long;
-use words::files::put_too_short;
-use words::files::put_unreadable;
-use words::files::put_unwritable;
 
 // A slot's number; the slot holds one more.
 pub fn number(slot: u64) -> u16 {
@@ -22,31 +17,6 @@ pub fn number(slot: u64) -> u16 {
 
 fn length_of(n: usize) -> u64 {
     n as u64
-}
-
-fn cannot_read(path: &[u8]) {
-    let mut out = io::large_buffer();
-    let at = put_unreadable(&mut out, 0, path);
-    let n = within(&out, at);
-    os::fail(&out[..n]);
-}
-
-fn too_short(path: &[u8], length: usize) {
-    let mut out = io::large_buffer();
-    let at = put_too_short(&mut out, 0, path, length_of(length));
-    say(2, &out, at);
-}
-
-fn too_long(path: &[u8], room: usize) {
-    let mut out = io::large_buffer();
-    let at = put_too_long(&mut out, 0, path, length_of(room));
-    say(2, &out, at);
-}
-
-fn partly(path: &[u8], from: u16, length: usize) {
-    let mut out = io::large_buffer();
-    let at = put_part(&mut out, 0, path, length_of(length), from);
-    say(2, &out, at);
 }
 
 // -1 a read failed, 0 the file ends here, 1 it goes on.
@@ -71,19 +41,19 @@ fn load_from(fd: i32, path: &[u8], mem: &mut [u8], given: bool, from: u16) -> bo
     let n = read_part(fd, mem, from as usize);
     let more = goes_on(fd);
     if more < 0 {
-        cannot_read(path);
+        mistakes::unreadable(path);
         return false;
     }
     if 0 < more {
-        too_long(path, room);
+        mistakes::too_long(path, length_of(room));
         return false;
     }
     if given {
-        partly(path, from, n);
+        mistakes::part(path, length_of(n), from);
         return true;
     }
     if n < 65536 {
-        too_short(path, n);
+        mistakes::too_short(path, length_of(n));
         return false;
     }
     true
@@ -92,7 +62,7 @@ fn load_from(fd: i32, path: &[u8], mem: &mut [u8], given: bool, from: u16) -> bo
 fn load_named(path: &[u8], mem: &mut [u8], at: u64) -> bool {
     let fd = os::open_read(path);
     if fd < 0 {
-        cannot_read(path);
+        mistakes::unreadable(path);
         return false;
     }
     let done = load_from(fd, path, mem, at != 0, number(at));
@@ -111,10 +81,7 @@ pub fn load(line: Line, mem: &mut [u8]) -> bool {
 }
 
 fn cannot_write(path: &[u8]) -> bool {
-    let mut out = io::large_buffer();
-    let at = put_unwritable(&mut out, 0, path);
-    let n = within(&out, at);
-    os::fail(&out[..n]);
+    mistakes::unwritable(path);
     false
 }
 

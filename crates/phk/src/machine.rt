@@ -3,9 +3,11 @@ use crate::file;
 use crate::file::number;
 use crate::said;
 use crate::said::Env;
-use crate::said::say;
 use crate::screening::after;
 use crate::screening::byte;
+use crate::sentences;
+use command::line::CGB;
+use command::line::CGB_DMG;
 use command::line::Line;
 use command::line::OUT;
 use command::line::PC;
@@ -14,22 +16,12 @@ use command::line::STATE;
 use command::line::STEP;
 use command::line::STEPS;
 use command::line::TRACE;
-use command::names::CGB;
-use command::names::CGB_DMG;
-use command::names::ZERO;
-use reading::opcode::length_of;
+use command::line::ZERO;
 use run::run;
 use run::step;
 use sm83::addr::Addr;
 use sm83::registers::CpuRegisters;
 use sm83::state::Cpu;
-use words::lines::put_change;
-use words::lines::put_refused;
-use words::steps::put_accesses;
-use words::steps::put_ended;
-use words::steps::put_progress;
-use words::steps::put_report;
-use words::steps::put_traced;
 
 // How far a run has come.
 struct Far {
@@ -95,28 +87,13 @@ fn traced(far: Far, mem: &mut [u8]) -> Far {
     let cpu = far.cpu;
     let before = cpu.registers;
     let pc = before.pc;
-    let a = pc.0;
-    let b = byte(mem, a);
-    let b1 = byte(mem, after(a, 1));
-    let b2 = byte(mem, after(a, 2));
+    let mut out = [0u8; 128];
+    let n = sentences::put_traced(&mut out, mem, pc.0);
     let x = step(cpu, mem);
     let cycles = x.cycles;
     let outcome = x.outcome;
     let last = outcome.number();
-    let mut out = [0u8; 128];
-    let n = put_traced(
-        &mut out,
-        0,
-        a,
-        length_of(b),
-        b,
-        b1,
-        b2,
-        before,
-        cycles.0 as u64,
-        last,
-    );
-    say(1, &out, n);
+    sentences::traced(&mut out, n, before, cycles.0 as u64, last);
     let next = x.cpu;
     Far {
         cpu: next,
@@ -141,15 +118,13 @@ fn ran(far: Far, mem: &mut [u8], budget: u16) -> Far {
 
 fn show_progress(far: Far, on: bool) {
     if on {
-        let mut out = [0u8; 64];
-        let n = put_progress(&mut out, 0, far.steps);
-        say(2, &out, n);
+        sentences::progress(far.steps);
     }
 }
 
 fn clear_progress(on: bool) {
     if on {
-        io::write_all(2, b"\r                                \r");
+        sentences::clear_progress();
     }
 }
 
@@ -182,10 +157,7 @@ fn rest(steps: u64) -> u16 {
 
 fn run_all(far: Far, mem: &mut [u8], steps: u64, trace: bool, progress: bool) -> Far {
     if trace {
-        io::write_all(
-            1,
-            b"PC    bytes     AF   BC   DE   HL   SP   ZNHC  M-cycles, outcome\n",
-        );
+        sentences::trace_head();
         return pieces(far, mem, steps, 1, true, false);
     }
     let f = pieces(far, mem, steps / 65535, 65535, false, progress);
@@ -200,28 +172,6 @@ fn run_all(far: Far, mem: &mut [u8], steps: u64, trace: bool, progress: bool) ->
     ran(f, mem, more)
 }
 
-fn print_refusal(mem: &[u8], a: u16, number: u8) {
-    let mut out = [0u8; 512];
-    let b = byte(mem, a);
-    let n = put_refused(
-        &mut out,
-        0,
-        number,
-        a,
-        length_of(b),
-        b,
-        byte(mem, after(a, 1)),
-        byte(mem, after(a, 2)),
-    );
-    say(1, &out, n);
-}
-
-fn print_outcome(last: u16) {
-    let mut out = [0u8; 128];
-    let n = put_ended(&mut out, 0, last);
-    say(1, &out, n);
-}
-
 fn print_end(far: Far, mem: &[u8]) -> u8 {
     let cpu = far.cpu;
     let registers = cpu.registers;
@@ -229,32 +179,13 @@ fn print_end(far: Far, mem: &[u8]) -> u8 {
     let last = far.last;
     let refused = 16 < last;
     if refused {
-        print_refusal(mem, pc.0, (last % 16) as u8);
+        sentences::refused_at(mem, (last % 16) as u8, pc.0);
     } else {
-        print_outcome(last);
+        sentences::ended(last);
     }
-    let mut out = [0u8; 256];
-    let n = put_report(&mut out, 0, far.steps, far.cycles, registers);
-    say(1, &out, n);
-    print_flags(cpu);
+    sentences::report(far.steps, far.cycles, registers);
+    sentences::interrupts(cpu.ime, cpu.latch);
     if refused { said::REFUSED } else { said::DONE }
-}
-
-// The state beside the registers.
-fn print_flags(cpu: Cpu) {
-    if cpu.ime {
-        io::write_all(1, b"interrupts on\n");
-    } else if cpu.latch {
-        io::write_all(1, b"interrupts off, on after the next instruction\n");
-    } else {
-        io::write_all(1, b"interrupts off\n");
-    }
-}
-
-fn print_change(a: u16, before: u8, now: u8) {
-    let mut out = [0u8; 64];
-    let n = put_change(&mut out, 0, a, before, now);
-    say(1, &out, n);
 }
 
 // Answers whether the byte changed.
@@ -264,7 +195,7 @@ fn compared(old: &[u8], mem: &[u8], a: u16) -> bool {
     if before == now {
         return false;
     }
-    print_change(a, before, now);
+    sentences::change(a, before, now);
     true
 }
 
@@ -281,43 +212,46 @@ fn print_changes(old: &[u8], mem: &[u8]) -> bool {
     some
 }
 
-fn print_accesses(cycles: u64) {
-    let mut out = [0u8; 64];
-    let n = put_accesses(&mut out, 0, cycles);
-    say(1, &out, n);
-}
-
-fn saved(line: Line, mem: &[u8], env: Env, status: u8) -> u8 {
-    let slot = line.slot_of(OUT);
+// The memory as it stands at the end, if --out was given.
+fn saved(slot: u64, mem: &[u8], tells: bool, status: u8) -> u8 {
     if slot == 0 {
         return status;
     }
-    if file::save(slot, mem, env.tells) {
+    if file::save(slot, mem, tells) {
         status
     } else {
         said::REFUSED
     }
 }
 
-fn budget(line: Line) -> u64 {
-    let slot = line.slot_of(STEPS);
+fn budget(slot: u64) -> u64 {
     if slot == 0 { 65535 } else { slot - 1 }
 }
 
-fn stepping(line: Line, mem: &mut [u8], env: Env, far: Far) -> u8 {
+fn print_all_changes(old: &[u8], mem: &[u8]) {
+    let some = print_changes(old, mem);
+    if !some {
+        sentences::no_change();
+    }
+}
+
+fn stepping(mem: &mut [u8], far: Far) -> u8 {
     let mut old = io::large_buffer();
     text::page::put(&mut old, 0, mem);
     let end = ran(far, mem, 1);
     let status = print_end(end, mem);
-    print_accesses(end.cycles);
-    let some = print_changes(&old, mem);
-    if !some {
-        io::write_all(1, b"no byte of memory changed\n");
-    }
-    saved(line, mem, env, status)
+    sentences::accesses(end.cycles);
+    print_all_changes(&old, mem);
+    status
 }
 
-pub fn machine(line: Line, mem: &mut [u8], env: Env) -> u8 {
+fn running(line: Line, mem: &mut [u8], progress: bool, far: Far) -> u8 {
+    let trace = line.slot_of(TRACE) != 0;
+    let end = run_all(far, mem, budget(line.slot_of(STEPS)), trace, progress);
+    print_end(end, mem)
+}
+
+fn obeyed(line: Line, mem: &mut [u8], progress: bool) -> u8 {
     let cpu = started(line);
     let far = Far {
         cpu: cpu,
@@ -326,10 +260,12 @@ pub fn machine(line: Line, mem: &mut [u8], env: Env) -> u8 {
         cycles: 0,
     };
     if line.command == STEP {
-        return stepping(line, mem, env, far);
+        return stepping(mem, far);
     }
-    let trace = line.slot_of(TRACE) != 0;
-    let end = run_all(far, mem, budget(line), trace, env.progress);
-    let status = print_end(end, mem);
-    saved(line, mem, env, status)
+    running(line, mem, progress, far)
+}
+
+pub fn machine(line: Line, mem: &mut [u8], env: Env) -> u8 {
+    let status = obeyed(line, mem, env.progress);
+    saved(line.slot_of(OUT), mem, env.tells, status)
 }

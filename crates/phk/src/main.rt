@@ -1,10 +1,13 @@
-// The field tool: phk screen, run, step, version and help. What it says is proved in `words`, what it reads of the command line in
-// `command`; here the files are read and written and the lines are put together.
+// The field tool: phk screen, run, step, version and help. What a form becomes is proved in `words`, what the command line means in
+// `command`; here stand the sentences and the forms, and the files are read and written.
 mod file;
 mod help;
 mod machine;
+mod mistakes;
+mod page;
 mod said;
 mod screening;
+mod sentences;
 
 use command::line::ASKS_HELP;
 use command::line::HELP;
@@ -64,7 +67,7 @@ fn main() {
     let line = read_words(env.first);
     let wrong = line.wrong;
     if wrong != 0 {
-        said::mistake(line);
+        mistakes::mistake(line);
         said::last_word(env, said::BAD_USAGE);
         return;
     }

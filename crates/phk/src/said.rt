@@ -1,7 +1,5 @@
 // What the launcher told the program, and what the program tells it: its last word, on descriptor 3.
-ghost use Rattle.io.specs.Counts.{Counts};
-use command::line::Line;
-use words::lines::put_mistake_line;
+use crate::page::print;
 
 pub const DONE: u8 = 0;
 
@@ -9,8 +7,8 @@ pub const REFUSED: u8 = 1;
 
 pub const BAD_USAGE: u8 = 2;
 
-// The launcher's word comes first and begins with @: c, colours on standard output; p, progress on standard error; s, the last word is
-// wanted on descriptor 3. `first` is the first word of the command line proper.
+// The launcher's word comes first and begins with @: then c, colours on standard output, or -; p, progress on standard error, or -; s, the
+// last word is wanted on descriptor 3. `first` is the first word of the command line proper.
 pub struct Env {
     pub first: usize,
     pub colour: bool,
@@ -18,34 +16,18 @@ pub struct Env {
     pub tells: bool,
 }
 
-fn has(word: &[u8], b: u8) -> bool {
-    let n = word.len();
-    if 1 < n {
-        if word[1] == b {
-            return true;
-        }
-    }
-    if 2 < n {
-        if word[2] == b {
-            return true;
-        }
-    }
-    if 3 < n {
-        return word[3] == b;
-    }
-    false
+fn stands(word: &[u8], i: usize, b: u8) -> bool {
+    if i < word.len() { word[i] == b } else { false }
 }
 
 fn env_in(word: &[u8]) -> Env {
-    if 0 < word.len() {
-        if word[0] == 64 {
-            return Env {
-                first: 2,
-                colour: has(word, 99),
-                progress: has(word, 112),
-                tells: has(word, 115),
-            };
-        }
+    if stands(word, 0, 64) {
+        return Env {
+            first: 2,
+            colour: stands(word, 1, 99),
+            progress: stands(word, 2, 112),
+            tells: stands(word, 3, 115),
+        };
     }
     Env {
         first: 1,
@@ -61,56 +43,8 @@ pub fn told() -> Env {
     env_in(&word[..n])
 }
 
-// At most the page's length.
-pub fn within(out: &[u8], n: usize) -> usize
-    ensures { λ r. ⌜ Counts r (now (out .entry)) ⌝ }
-{
-    if n <= out.len() {
-        return n;
-    }
-    out.len()
-}
-
-// The first n bytes of a page.
-pub fn say(fd: i32, out: &[u8], n: usize) {
-    let k = within(out, n);
-    io::write_all(fd, &out[..k]);
-}
-
-pub fn mistake(line: Line) {
-    let mut word = io::buffer();
-    let k = os::arg(line.word, &mut word);
-    let wrong = line.wrong;
-    let mut n = 0;
-    if line.word != 0 {
-        n = k;
-    }
-    mistake_in(&word, n, line.slot, wrong);
-}
-
-// Mistakes 1 to 5 and 7 are about the word itself, the others about what it stands for.
-fn mistake_in(word: &[u8], n: usize, slot: u8, wrong: u8) {
-    let mut out = io::buffer();
-    let mut named = true;
-    if wrong < 6 {
-        named = false;
-    }
-    if wrong == 7 {
-        named = false;
-    }
-    let n = within(word, n);
-    let k = put_mistake_line(&mut out, 0, named, slot, &word[..n], wrong);
-    say(2, &out, k);
-}
-
 pub fn last_word(env: Env, status: u8) {
     if env.tells {
-        if status == DONE {
-            io::write_all(3, b"0\n");
-        } else if status == REFUSED {
-            io::write_all(3, b"1\n");
-        } else {
-            io::write_all(3, b"2\n");
-        }
+        print(3, b"%\n", &[status as u64], b"");
     }
 }

@@ -1,5 +1,3 @@
 -- What the contracts of `text` cite.
 pub mod Page
 pub mod Digits
-pub mod Word
-pub mod Number

@@ -37,8 +37,3 @@ pub record Wrote (before : Page) (bytes : List ℕ) (after : Page) : Type 0 wher
 abbrev pub ascii : String → List ℕ
 ascii none = []
 ascii (c then s) = code c ∷ ascii s
-
--- a text that may be left out
-abbrev pub when : Bool → List ℕ → List ℕ
-when true bytes = bytes
-when false bytes = []

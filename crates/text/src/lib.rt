@@ -1,5 +1,3 @@
-// Text on lent slices: bytes and numbers written one after the other, words compared, numbers read.
+// Text on lent slices: bytes and numbers written one after the other.
 pub mod digits;
-pub mod number;
 pub mod page;
-pub mod word;

@@ -1,7 +1,7 @@
 // Bytes written to a lent slice from a place on; each function answers the next place. What does not fit is left out.
 ghost use mathlib.Core.Path.{_≡_};
 ghost use mathlib.Core.List.{_∷_, []};
-ghost use Rattle.text.specs.Page.{page, Wrote, when};
+ghost use Rattle.text.specs.Page.{page, Wrote};
 
 pub fn put_byte(out: &mut [u8], at: usize, b: u8) -> usize
     ensures { λ r. ⌜ Wrote (page at (now (out .entry))) (b ∷ []) (page r (now (out .exit))) ⌝ }
@@ -23,14 +23,4 @@ pub fn put(out: &mut [u8], at: usize, text: &[u8]) -> usize
         i += 1;
     }
     next
-}
-
-// The text, if it is wanted.
-pub fn put_when(out: &mut [u8], at: usize, on: bool, text: &[u8]) -> usize
-    ensures { λ r. ⌜ Wrote (page at (now (out .entry))) (when on (now (text .entry))) (page r (now (out .exit))) ⌝ }
-{
-    if on {
-        return put(out, at, text);
-    }
-    at
 }

@@ -1,7 +1,2 @@
-// What the tool says: sentences chosen by number, and lines of numbers, written to a lent slice.
-pub mod files;
-pub mod lines;
-pub mod mistake;
-pub mod registers;
-pub mod sentence;
-pub mod steps;
+// What the tool says of numbers and words: forms that are filled in.
+pub mod form;

@@ -1,12 +1,13 @@
--- One word of the table after the other.
-use Rattle.command.specs.Names.{optionNumber}
+-- The number of the word's line.
+use mathlib.Core.Path.{ap, _∙_}
 use borrow.Author.Needs.{needs}
+use Rattle.command.specs.Names.{small, optionNumber}
 use Rattle.command.proofs.names.option_number.Statement.{statement}
 use Rattle.command.proofs.names.option_number.Tie as tie
 
 returns : tie.Need-returns
 unfolding optionNumber
-returns c = simp (c .pick11 .ensures, c .before .before .pick10 .ensures, c .before .before .before .before .pick9 .ensures, c .before .before .before .before .before .before .pick8 .ensures, c .before .before .before .before .before .before .before .before .pick7 .ensures, c .before .before .before .before .before .before .before .before .before .before .pick6 .ensures, c .before .before .before .before .before .before .before .before .before .before .before .before .pick5 .ensures, c .before .before .before .before .before .before .before .before .before .before .before .before .before .before .pick4 .ensures, c .before .before .before .before .before .before .before .before .before .before .before .before .before .before .before .before .pick3 .ensures, c .before .before .before .before .before .before .before .before .before .before .before .before .before .before .before .before .before .before .pick2 .ensures, c .before .before .before .before .before .before .before .before .before .before .before .before .before .before .before .before .before .before .before .before .pick .ensures)
+returns c = c .small .ensures ∙ ap small (c .before .number-of .ensures)
 
 pub option-number-spec : {M : Type 1} → statement M
-option-number-spec = tie.close (tie.spec (λ c. search needs) (λ c κs. search needs) (λ c. search needs) (λ c κs. search needs) (λ c. search needs) (λ c κs. search needs) (λ c. search needs) (λ c κs. search needs) (λ c. search needs) (λ c κs. search needs) (λ c. search needs) (λ c κs. search needs) (λ c. search needs) (λ c κs. search needs) (λ c. search needs) (λ c κs. search needs) (λ c. search needs) (λ c κs. search needs) (λ c. search needs) (λ c κs. search needs) (λ c. search needs) (λ c κs. search needs) returns)
+option-number-spec = tie.close (tie.spec (λ c. search needs) (λ c κs. search needs) (λ c κs. search needs) returns)

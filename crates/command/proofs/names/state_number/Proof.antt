@@ -1,12 +1,13 @@
--- One word of the table after the other.
-use Rattle.command.specs.Names.{stateNumber}
+-- The number of the word's line.
+use mathlib.Core.Path.{ap, _∙_}
 use borrow.Author.Needs.{needs}
+use Rattle.command.specs.Names.{small, stateNumber}
 use Rattle.command.proofs.names.state_number.Statement.{statement}
 use Rattle.command.proofs.names.state_number.Tie as tie
 
 returns : tie.Need-returns
 unfolding stateNumber
-returns c = simp (c .pick4 .ensures, c .before .before .pick3 .ensures, c .before .before .before .before .pick2 .ensures, c .before .before .before .before .before .before .pick .ensures)
+returns c = c .small .ensures ∙ ap small (c .before .number-of .ensures)
 
 pub state-number-spec : {M : Type 1} → statement M
-state-number-spec = tie.close (tie.spec (λ c. search needs) (λ c κs. search needs) (λ c. search needs) (λ c κs. search needs) (λ c. search needs) (λ c κs. search needs) (λ c. search needs) (λ c κs. search needs) returns)
+state-number-spec = tie.close (tie.spec (λ c. search needs) (λ c κs. search needs) (λ c κs. search needs) returns)

@@ -10,15 +10,11 @@ returns c = simp (c .mistaken .ensures, ← c .before .number-mistake .ensures, 
 
 returns-2 : tie.Need-returns-2
 unfolding takeNumber
-returns-2 c = simp (c .stored .ensures, ← c .before .kept .ensures, c .before .before .if2 .taken, c .before .before .before .if1 .left, ← c .before .before .before .before .before .number-in .ensures)
+returns-2 c = simp (c .mistaken2 .ensures, c .before .if2 .taken, c .before .before .before .if1 .left, ← c .before .before .before .before .before .number-in .ensures)
 
 returns-3 : tie.Need-returns-3
 unfolding takeNumber
-returns-3 c = simp (c .mistaken2 .ensures, c .before .if3 .taken, c .before .before .before .if2 .left, c .before .before .before .before .if1 .left, ← c .before .before .before .before .before .before .number-in .ensures)
-
-returns-4 : tie.Need-returns-4
-unfolding takeNumber
-returns-4 c = simp (c .stored2 .ensures, ← c .before .kept2 .ensures, c .before .before .if3 .left, c .before .before .before .before .if2 .left, c .before .before .before .before .before .if1 .left, ← c .before .before .before .before .before .before .before .number-in .ensures)
+returns-3 c = simp (c .stored .ensures, ← c .before .kept .ensures, c .before .before .if2 .left, c .before .before .before .before .if1 .left, ← c .before .before .before .before .before .before .number-in .ensures)
 
 pub take-number-spec : {M : Type 1} → statement M
-take-number-spec = tie.close (tie.spec (λ c κs. search needs) (λ c κs. search needs) (λ c κs. search needs) returns (λ c κs. search needs) (λ c κs. search needs) returns-2 (λ c κs. search needs) returns-3 (λ c κs. search needs) (λ c κs. search needs) returns-4)
+take-number-spec = tie.close (tie.spec (λ c κs. search needs) (λ c κs. search needs) (λ c κs. search needs) returns (λ c κs. search needs) returns-2 (λ c κs. search needs) (λ c κs. search needs) returns-3)

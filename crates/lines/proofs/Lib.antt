@@ -1,0 +1,3 @@
+-- What is proved of texts of lines.
+pub mod Found
+pub mod Same

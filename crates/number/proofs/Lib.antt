@@ -1,0 +1,2 @@
+-- What is proved of numbers as a person writes them.
+pub mod ByteRead

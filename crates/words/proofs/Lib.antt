@@ -1,0 +1,2 @@
+-- What is proved of forms.
+pub mod Filled
