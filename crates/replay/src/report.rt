@@ -2,6 +2,7 @@
 ghost use Prim.Native.Nat.{_+_, _≤_};
 ghost use lib.ListN.{length};
 use libc::STDOUT_FILENO;
+use lines::line_of;
 use records::notes::HALTS;
 use records::notes::KINDS;
 use records::notes::OUTCOMES;
@@ -11,8 +12,9 @@ fn long(n: u32) -> u64 {
     n as u64
 }
 
-fn line(words: &[u8], n: u32) {
-    io::write_all(STDOUT_FILENO, words);
+fn line(name: &[u8], mark: &[u8], n: u32) {
+    io::write_all(STDOUT_FILENO, name);
+    io::write_all(STDOUT_FILENO, mark);
     io::print_decimal(STDOUT_FILENO, long(n));
     io::write_all(STDOUT_FILENO, b"\n");
 }
@@ -30,45 +32,84 @@ fn opcodes_met(counts: &[u32; 1536]) -> u32 {
     met
 }
 
-fn report_outcomes(counts: &[u32; 1536]) {
-    line(b"outcome Normal: ", counts[OUTCOMES]);
-    line(b"outcome InfiniteLoop: ", counts[OUTCOMES + 1]);
-    line(b"outcome Halting: ", counts[OUTCOMES + 2]);
-    line(b"outcome RunningHDMA: ", counts[OUTCOMES + 3]);
-    line(b"outcome Stopped: ", counts[OUTCOMES + 4]);
-    line(b"outcome Breakpoint: ", counts[OUTCOMES + 5]);
-    line(b"outcome nothing run: ", counts[OUTCOMES + 6]);
-    line(b"outcome RunningInterrupt 0: ", counts[OUTCOMES + 8]);
-    line(b"outcome RunningInterrupt 1: ", counts[OUTCOMES + 9]);
-    line(b"outcome RunningInterrupt 2: ", counts[OUTCOMES + 10]);
-    line(b"outcome RunningInterrupt 3: ", counts[OUTCOMES + 11]);
-    line(b"outcome RunningInterrupt 4: ", counts[OUTCOMES + 12]);
-    line(b"outcome refusal 1: ", counts[OUTCOMES + 17]);
-    line(b"outcome refusal 2: ", counts[OUTCOMES + 18]);
-    line(b"outcome refusal 3: ", counts[OUTCOMES + 19]);
+// A name that is empty has no count.
+fn named(name: &[u8], mark: &[u8], counts: &[u32; 1536], place: usize) {
+    if name.len() == 0 {
+        return;
+    }
+    if place < 1536 {
+        line(name, mark, counts[place]);
+    }
 }
 
-fn report_verdicts(counts: &[u32; 1536]) {
-    line(b"verdict passes: ", counts[VERDICTS]);
-    line(b"verdict 1: ", counts[VERDICTS + 1]);
-    line(b"verdict 4: ", counts[VERDICTS + 4]);
-    line(b"verdict 5: ", counts[VERDICTS + 5]);
-    line(b"verdict 6: ", counts[VERDICTS + 6]);
-    line(b"verdict 7: ", counts[VERDICTS + 7]);
-    line(b"verdict 8: ", counts[VERDICTS + 8]);
-    line(b"verdict 9: ", counts[VERDICTS + 9]);
-    line(b"verdict 10: ", counts[VERDICTS + 10]);
+// Line n of the names belongs to the count at from + n.
+fn counted(names: &[u8], many: usize, mark: &[u8], counts: &[u32; 1536], from: usize) {
+    let mut n: usize = 0;
+    while n < many {
+        named(
+            line_of(names, n),
+            mark,
+            counts,
+            std::num::wrapping_add_usize(from, n),
+        );
+        n += 1;
+    }
 }
 
 pub fn report(counts: &[u32; 1536]) {
-    line(b"steps ", counts[KINDS]);
-    line(b"runs ", counts[KINDS + 1]);
-    line(b"windows ", counts[KINDS + 2]);
-    line(b"opcodes met, of 512: ", opcodes_met(counts));
-    line(b"from NotHalting: ", counts[HALTS]);
-    line(b"from HaltRunInterrupt: ", counts[HALTS + 1]);
-    line(b"from HaltNoRunInterrupt: ", counts[HALTS + 2]);
-    line(b"from HaltBug: ", counts[HALTS + 3]);
-    report_outcomes(counts);
-    report_verdicts(counts);
+    counted(b"steps\nruns\nwindows", 3, b" ", counts, KINDS);
+    line(b"opcodes met, of 512", b": ", opcodes_met(counts));
+    counted(
+        b"from NotHalting
+from HaltRunInterrupt
+from HaltNoRunInterrupt
+from HaltBug",
+        4,
+        b": ",
+        counts,
+        HALTS,
+    );
+    counted(
+        b"outcome Normal
+outcome InfiniteLoop
+outcome Halting
+outcome RunningHDMA
+outcome Stopped
+outcome Breakpoint
+outcome nothing run
+
+outcome RunningInterrupt 0
+outcome RunningInterrupt 1
+outcome RunningInterrupt 2
+outcome RunningInterrupt 3
+outcome RunningInterrupt 4
+
+
+
+
+outcome refusal 1
+outcome refusal 2
+outcome refusal 3",
+        20,
+        b": ",
+        counts,
+        OUTCOMES,
+    );
+    counted(
+        b"verdict passes
+verdict 1
+
+
+verdict 4
+verdict 5
+verdict 6
+verdict 7
+verdict 8
+verdict 9
+verdict 10",
+        11,
+        b": ",
+        counts,
+        VERDICTS,
+    );
 }
