@@ -17,16 +17,18 @@ use command::line::STEP;
 use command::line::STEPS;
 use command::line::TRACE;
 use command::line::ZERO;
+use ending::stopped;
 use run::run;
 use run::step;
 use sm83::addr::Addr;
+use sm83::outcome::LastOutcome;
 use sm83::registers::CpuRegisters;
 use sm83::state::Cpu;
 
 // How far a run has come.
 struct Far {
     cpu: Cpu,
-    last: u16,
+    last: LastOutcome,
     steps: u64,
     cycles: u64,
 }
@@ -68,18 +70,10 @@ fn started(line: Line) -> Cpu {
     Cpu::with_registers(r, c.dmg)
 }
 
-// "it stops early only after InfiniteLoop, Breakpoint, Stopped or a refusal", by their numbers
-fn stops(last: u16) -> bool {
-    if last == 1 {
-        return true;
-    }
-    if last == 4 {
-        return true;
-    }
-    if last == 5 {
-        return true;
-    }
-    16 < last
+// A run that has come so far goes no further.
+fn over(far: Far) -> bool {
+    let last = far.last;
+    stopped(last)
 }
 
 // A step with its line: what stands before it, then what it did.
@@ -97,7 +91,7 @@ fn traced(far: Far, mem: &mut [u8]) -> Far {
     let next = x.cpu;
     Far {
         cpu: next,
-        last: last,
+        last: LastOutcome::Last(outcome),
         steps: std::num::wrapping_add_u64(far.steps, 1),
         cycles: std::num::wrapping_add_u64(far.cycles, cycles.0 as u64),
     }
@@ -110,7 +104,7 @@ fn ran(far: Far, mem: &mut [u8], budget: u16) -> Far {
     let next = x.cpu;
     Far {
         cpu: next,
-        last: last.number(),
+        last: last,
         steps: std::num::wrapping_add_u64(far.steps, x.steps as u64),
         cycles: std::num::wrapping_add_u64(far.cycles, cycles.0 as u64),
     }
@@ -141,7 +135,7 @@ fn pieces(far: Far, mem: &mut [u8], count: u64, size: u16, trace: bool, progress
     let mut f = far;
     let mut left = count;
     while 0 < left {
-        if stops(f.last) {
+        if over(f) {
             return f;
         }
         f = piece(f, mem, size, trace);
@@ -166,7 +160,7 @@ fn run_all(far: Far, mem: &mut [u8], steps: u64, trace: bool, progress: bool) ->
     if more == 0 {
         return f;
     }
-    if stops(f.last) {
+    if over(f) {
         return f;
     }
     ran(f, mem, more)
@@ -176,7 +170,8 @@ fn print_end(far: Far, mem: &[u8]) -> u8 {
     let cpu = far.cpu;
     let registers = cpu.registers;
     let pc = registers.pc;
-    let last = far.last;
+    let outcome = far.last;
+    let last = outcome.number();
     let refused = 16 < last;
     if refused {
         sentences::refused_at(mem, (last % 16) as u8, pc.0);
@@ -255,7 +250,7 @@ fn obeyed(line: Line, mem: &mut [u8], progress: bool) -> u8 {
     let cpu = started(line);
     let far = Far {
         cpu: cpu,
-        last: 6,
+        last: LastOutcome::NothingRun,
         steps: 0,
         cycles: 0,
     };

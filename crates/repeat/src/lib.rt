@@ -5,9 +5,10 @@ ghost use lib.ListN.{length};
 ghost use Rattle.sm83.specs.declared.outcome.LastOutcome.the-variants.{NothingRun};
 ghost use Rattle.sm83.specs.State.{flags};
 ghost use Rattle.definition.specs.Bus.{plain};
-ghost use Rattle.definition.specs.Run.{stopsRun, repeated};
+ghost use Rattle.definition.specs.Run.{repeated};
 ghost use Rattle.repeat.specs.Ran.{answer};
 use cpu::step::next_instruction;
+use ending::stops;
 use memory::Port;
 use sm83::addr::MCycles;
 use sm83::outcome::LastOutcome;
@@ -21,22 +22,6 @@ pub struct Ran {
     pub cpu: Cpu,
     pub steps: u16,
     pub cycles: MCycles,
-}
-
-// After InfiniteLoop, Breakpoint, Stopped or a refusal.
-fn stops(outcome: Outcome) -> bool
-    ensures { λ r. ⌜ r ≡ stopsRun outcome ⌝ }
-{
-    match outcome {
-        Outcome::Normal => false,
-        Outcome::InfiniteLoop => true,
-        Outcome::Halting => false,
-        Outcome::RunningHDMA => false,
-        Outcome::Stopped => true,
-        Outcome::RunningInterrupt(_) => false,
-        Outcome::Breakpoint(_) => true,
-        Outcome::Refused(_) => true,
-    }
 }
 
 pub fn repeat(cpu: Cpu, mem: &mut [u8], budget: u16) -> Ran

@@ -56,19 +56,7 @@ fn counted(names: &[u8], many: usize, mark: &[u8], counts: &[u32; 1536], from: u
     }
 }
 
-pub fn report(counts: &[u32; 1536]) {
-    counted(b"steps\nruns\nwindows", 3, b" ", counts, KINDS);
-    line(b"opcodes met, of 512", b": ", opcodes_met(counts));
-    counted(
-        b"from NotHalting
-from HaltRunInterrupt
-from HaltNoRunInterrupt
-from HaltBug",
-        4,
-        b": ",
-        counts,
-        HALTS,
-    );
+fn report_outcomes(counts: &[u32; 1536]) {
     counted(
         b"outcome Normal
 outcome InfiniteLoop
@@ -95,6 +83,9 @@ outcome refusal 3",
         counts,
         OUTCOMES,
     );
+}
+
+fn report_verdicts(counts: &[u32; 1536]) {
     counted(
         b"verdict passes
 verdict 1
@@ -112,4 +103,21 @@ verdict 10",
         counts,
         VERDICTS,
     );
+}
+
+pub fn report(counts: &[u32; 1536]) {
+    counted(b"steps\nruns\nwindows", 3, b" ", counts, KINDS);
+    line(b"opcodes met, of 512", b": ", opcodes_met(counts));
+    counted(
+        b"from NotHalting
+from HaltRunInterrupt
+from HaltNoRunInterrupt
+from HaltBug",
+        4,
+        b": ",
+        counts,
+        HALTS,
+    );
+    report_outcomes(counts);
+    report_verdicts(counts);
 }
