@@ -110,9 +110,10 @@ fn ran(far: Far, mem: &mut [u8], budget: u16) -> Far {
     }
 }
 
-fn show_progress(far: Far, on: bool) {
-    if on {
-        sentences::progress(far.steps);
+// `total` is the number of steps that were asked for; 0 if nothing is to be shown.
+fn show_progress(far: Far, total: u64) {
+    if total != 0 {
+        sentences::progress(far.steps, total);
     }
 }
 
@@ -131,7 +132,7 @@ fn piece(far: Far, mem: &mut [u8], budget: u16, trace: bool) -> Far {
 }
 
 // As many pieces as there are steps left; `trace` is for pieces of one step.
-fn pieces(far: Far, mem: &mut [u8], count: u64, size: u16, trace: bool, progress: bool) -> Far {
+fn pieces(far: Far, mem: &mut [u8], count: u64, size: u16, trace: bool, total: u64) -> Far {
     let mut f = far;
     let mut left = count;
     while 0 < left {
@@ -139,7 +140,7 @@ fn pieces(far: Far, mem: &mut [u8], count: u64, size: u16, trace: bool, progress
             return f;
         }
         f = piece(f, mem, size, trace);
-        show_progress(f, progress);
+        show_progress(f, total);
         left = left - 1;
     }
     f
@@ -152,9 +153,10 @@ fn rest(steps: u64) -> u16 {
 fn run_all(far: Far, mem: &mut [u8], steps: u64, trace: bool, progress: bool) -> Far {
     if trace {
         sentences::trace_head();
-        return pieces(far, mem, steps, 1, true, false);
+        return pieces(far, mem, steps, 1, true, 0);
     }
-    let f = pieces(far, mem, steps / 65535, 65535, false, progress);
+    let total = if progress { steps } else { 0 };
+    let f = pieces(far, mem, steps / 65535, 65535, false, total);
     clear_progress(progress);
     let more = rest(steps);
     if more == 0 {

@@ -191,8 +191,8 @@ refused 3",
 }
 
 // How far a long run has come, on one line that is written over.
-pub fn progress(steps: u64) {
-    print(2, b"\r% steps", &[steps], b"");
+pub fn progress(steps: u64, total: u64) {
+    print(2, b"\r% of % steps", &[steps, total], b"");
 }
 
 pub fn clear_progress() {

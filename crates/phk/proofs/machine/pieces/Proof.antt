@@ -6,10 +6,10 @@ use Rattle.phk.proofs.machine.pieces.Statement.{statement}
 use Rattle.phk.proofs.machine.pieces.Tie as tie
 
 abbrev Inv-loop : tie.InvT-loop
-Inv-loop mem₀ count size trace progress f₀ left₀ mem f left = length mem ≡ length mem₀
+Inv-loop mem₀ count size trace total f₀ left₀ mem f left = length mem ≡ length mem₀
 
 abbrev μ-loop : tie.MeasureT-loop
-μ-loop mem₀ count size trace progress f₀ left₀ mem f left = left
+μ-loop mem₀ count size trace total f₀ left₀ mem f left = left
 
 begins : tie.Need-loop-holds Inv-loop μ-loop
 begins c = refl
