@@ -1,11 +1,4 @@
 // phk run and phk step.
-use crate::file;
-use crate::file::number;
-use crate::said;
-use crate::said::Env;
-use crate::screening::after;
-use crate::screening::byte;
-use crate::sentences;
 use command::line::CGB;
 use command::line::CGB_DMG;
 use command::line::Line;
@@ -24,6 +17,13 @@ use sm83::addr::Addr;
 use sm83::outcome::LastOutcome;
 use sm83::registers::CpuRegisters;
 use sm83::state::Cpu;
+use tool::file;
+use tool::file::number;
+use tool::said;
+use tool::said::Env;
+use tool::screening::after;
+use tool::screening::byte;
+use tool::sentences;
 
 // How far a run has come.
 struct Far {

@@ -1,13 +1,6 @@
-// The field tool: phk screen, run, step, version and help. What a form becomes is proved in `words`, what the command line means in
-// `command`; here stand the sentences and the forms, and the files are read and written.
-mod file;
-mod help;
+// The field tool: phk screen, run, step, version and help. What it says and the files that it reads and writes are in `tool`, what the command
+// line means in `command`; here the line is read and obeyed.
 mod machine;
-mod mistakes;
-mod page;
-mod said;
-mod screening;
-mod sentences;
 
 use command::line::ASKS_HELP;
 use command::line::HELP;
@@ -16,7 +9,12 @@ use command::line::SCREEN;
 use command::line::VERSION;
 use command::take::finish;
 use command::take::take;
-use said::Env;
+use tool::file;
+use tool::help;
+use tool::mistakes;
+use tool::said;
+use tool::said::Env;
+use tool::screening;
 
 // The words of the command line, from one on.
 fn read_words(first: usize) -> Line {

@@ -1,7 +1,7 @@
 -- The loop ends: the bytes that are left.
 use native.Mathlib.Omega.{arith}
-use Rattle.phk.proofs.screening.print_starts.Statement.{statement}
-use Rattle.phk.proofs.screening.print_starts.Tie as tie
+use Rattle.tool.proofs.screening.print_starts.Statement.{statement}
+use Rattle.tool.proofs.screening.print_starts.Tie as tie
 
 abbrev Inv-loop : tie.InvT-loop
 Inv-loop mem marks first length left₀ a₀ left a = Unit {0}

@@ -2,8 +2,8 @@
 use Prim.Native.Nat.{_-_}
 use native.Mathlib.Omega.{arith}
 use lib.ListN.{length}
-use Rattle.phk.proofs.screening.print_cells.Statement.{statement}
-use Rattle.phk.proofs.screening.print_cells.Tie as tie
+use Rattle.tool.proofs.screening.print_cells.Statement.{statement}
+use Rattle.tool.proofs.screening.print_cells.Tie as tie
 
 abbrev Inv-loop : tie.InvT-loop
 Inv-loop kinds first colour a₀ column₀ i₀ a column i = Unit {0}
