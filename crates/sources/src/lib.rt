@@ -2,7 +2,7 @@
 ghost use mathlib.Core.Path.{_≡_};
 ghost use lib.Dec.{T};
 ghost use lib.ListN.{length};
-ghost use Rattle.definition.specs.Execution.{imm8};
+ghost use Rattle.definition.specs.Execution.{imm8, give};
 ghost use Rattle.instruction.specs.declared.operand.OperandType.the-variants.{AddrHLDec, AddrHLInc, Imm8Signed, HighAddr8, Addr16};
 ghost use Rattle.accesses.specs.Leads.{Leads};
 ghost use Rattle.mirror.specs.Operands.{readOperand};
@@ -101,6 +101,18 @@ fn read_at16(cpu: Cpu, port: Port, mem: &mut [u8]) -> Val16
     load(s, p, Addr(x.value), mem)
 }
 
+// A value that is at hand: no access.
+fn held(cpu: Cpu, port: Port, value: u16, mem: &mut [u8]) -> Val16
+    requires { ⌜ length (now mem) ≡ 65536 ⌝ }
+    ensures { λ r. ⌜ Leads (give value) cpu port (now (mem .entry)) (r .value) (r .cpu) (r .port) (now (mem .exit)) × (length (now (mem .exit)) ≡ 65536) ⌝ }
+{
+    Val16 {
+        cpu: cpu,
+        port: port,
+        value: value,
+    }
+}
+
 // For an operand that is never read: no call of this is ever reached.
 fn never_read(cpu: Cpu, port: Port) -> Val16
     requires { ⌜ ⊥ ⌝ }
@@ -120,71 +132,23 @@ pub fn read_operand(cpu: Cpu, port: Port, ty: OperandType, mem: &mut [u8]) -> Va
 {
     let regs = cpu.registers;
     match ty {
-        OperandType::RegA => Val16 {
-            cpu: cpu,
-            port: port,
-            value: regs.a as u16,
-        },
-        OperandType::RegB => Val16 {
-            cpu: cpu,
-            port: port,
-            value: regs.b as u16,
-        },
-        OperandType::RegC => Val16 {
-            cpu: cpu,
-            port: port,
-            value: regs.c as u16,
-        },
-        OperandType::RegD => Val16 {
-            cpu: cpu,
-            port: port,
-            value: regs.d as u16,
-        },
-        OperandType::RegE => Val16 {
-            cpu: cpu,
-            port: port,
-            value: regs.e as u16,
-        },
-        OperandType::RegH => Val16 {
-            cpu: cpu,
-            port: port,
-            value: regs.h as u16,
-        },
-        OperandType::RegL => Val16 {
-            cpu: cpu,
-            port: port,
-            value: regs.l as u16,
-        },
+        OperandType::RegA => held(cpu, port, regs.a as u16, mem),
+        OperandType::RegB => held(cpu, port, regs.b as u16, mem),
+        OperandType::RegC => held(cpu, port, regs.c as u16, mem),
+        OperandType::RegD => held(cpu, port, regs.d as u16, mem),
+        OperandType::RegE => held(cpu, port, regs.e as u16, mem),
+        OperandType::RegH => held(cpu, port, regs.h as u16, mem),
+        OperandType::RegL => held(cpu, port, regs.l as u16, mem),
         OperandType::AddrHL => load(cpu, port, Addr(regs.reg_hl_read()), mem),
         OperandType::AddrHLDec => read_hl_dec(cpu, port, mem),
         OperandType::AddrHLInc => read_hl_inc(cpu, port, mem),
         OperandType::AddrBC => load(cpu, port, Addr(regs.reg_bc_read()), mem),
         OperandType::AddrDE => load(cpu, port, Addr(regs.reg_de_read()), mem),
-        OperandType::RegAF => Val16 {
-            cpu: cpu,
-            port: port,
-            value: regs.reg_af_read(),
-        },
-        OperandType::RegBC => Val16 {
-            cpu: cpu,
-            port: port,
-            value: regs.reg_bc_read(),
-        },
-        OperandType::RegDE => Val16 {
-            cpu: cpu,
-            port: port,
-            value: regs.reg_de_read(),
-        },
-        OperandType::RegHL => Val16 {
-            cpu: cpu,
-            port: port,
-            value: regs.reg_hl_read(),
-        },
-        OperandType::RegSP => Val16 {
-            cpu: cpu,
-            port: port,
-            value: regs.sp.0,
-        },
+        OperandType::RegAF => held(cpu, port, regs.reg_af_read(), mem),
+        OperandType::RegBC => held(cpu, port, regs.reg_bc_read(), mem),
+        OperandType::RegDE => held(cpu, port, regs.reg_de_read(), mem),
+        OperandType::RegHL => held(cpu, port, regs.reg_hl_read(), mem),
+        OperandType::RegSP => held(cpu, port, regs.sp.0, mem),
         OperandType::Imm8 => read_imm8(cpu, port, mem),
         OperandType::Imm8Signed => read_signed(cpu, port, mem),
         OperandType::Imm16 => fetch16(cpu, port, mem),
@@ -192,10 +156,6 @@ pub fn read_operand(cpu: Cpu, port: Port, ty: OperandType, mem: &mut [u8]) -> Va
         OperandType::HighAddrC => load(cpu, port, high(regs.c), mem),
         OperandType::Addr16 => read_at16(cpu, port, mem),
         OperandType::Addr16Val16 => never_read(cpu, port),
-        OperandType::Implied => Val16 {
-            cpu: cpu,
-            port: port,
-            value: 0,
-        },
+        OperandType::Implied => held(cpu, port, 0, mem),
     }
 }

@@ -2,7 +2,7 @@
 use borrow.Author.Needs.{needs}
 use mathlib.Core.Path.{refl}
 use Rattle.definition.specs.Bus.{Operand}
-use Rattle.definition.specs.Execution.{load}
+use Rattle.definition.specs.Execution.{load, give}
 use Rattle.mirror.specs.Operands.{readOperand}
 use Rattle.accesses.proofs.Leading.{along, arm}
 use Rattle.sources.proofs.read_operand.Statement.{statement}
@@ -10,4 +10,56 @@ use Rattle.sources.proofs.read_operand.Tie as tie
 
 pub read-operand-spec : {M : Type 1} → statement M
 unfolding readOperand
-read-operand-spec = tie.close (tie.spec (λ c. search needs) (λ c. search needs) (λ c. search needs) (λ c. search needs) (λ c. search needs) (λ c. search needs) (λ c. search needs) (λ c. search needs) (λ c. search needs) (λ c. search needs) (λ c. search needs) (λ c. search needs) (λ c. search needs) (λ c. search needs) (λ c. search needs) (λ c κs. search needs) (λ c κs. search needs) (λ c. search needs) (λ c κs. search needs) (λ c. search needs) (λ c κs. search needs) (λ c. search needs) (λ c κs. search needs) (λ c κs. search needs) (λ c. search needs) (λ c κs. search needs) (λ c κs. search needs) (λ c. search needs) (λ c κs. search needs) (λ c. search needs) (λ c κs. search needs) (λ c. search needs) (λ c κs. search needs) (λ c. search needs) (λ c κs. search needs) (λ c. search needs) (λ c. search needs) (λ c κs. search needs) (λ c. search needs) (λ c κs. search needs) (λ c. search needs) (λ c κs. search needs) (λ c. search needs) (λ c κs. search needs) (λ c. search needs) (λ c κs. search needs) (λ c κs. search needs) (λ c. search needs) (λ c κs. search needs) (λ c. search needs) (λ c κs. rw (c .enum-told24 .given .1) at (c .before .before .before .before .pre .1)) (λ c. search needs) (λ c. (arm _ _ _ _ _ _ _ readOperand _ _ _ _ (c .before .enum-told .given .1) refl refl (λ k. refl), c .before .before .before .before .before .pre .0)) (λ c. (arm _ _ _ _ _ _ _ readOperand _ _ _ _ (c .before .enum-told2 .given .1) refl refl (λ k. refl), c .before .before .before .before .before .pre .0)) (λ c. (arm _ _ _ _ _ _ _ readOperand _ _ _ _ (c .before .enum-told3 .given .1) refl refl (λ k. refl), c .before .before .before .before .before .pre .0)) (λ c. (arm _ _ _ _ _ _ _ readOperand _ _ _ _ (c .before .enum-told4 .given .1) refl refl (λ k. refl), c .before .before .before .before .before .pre .0)) (λ c. (arm _ _ _ _ _ _ _ readOperand _ _ _ _ (c .before .enum-told5 .given .1) refl refl (λ k. refl), c .before .before .before .before .before .pre .0)) (λ c. (arm _ _ _ _ _ _ _ readOperand _ _ _ _ (c .before .enum-told6 .given .1) refl refl (λ k. refl), c .before .before .before .before .before .pre .0)) (λ c. (arm _ _ _ _ _ _ _ readOperand _ _ _ _ (c .before .enum-told7 .given .1) refl refl (λ k. refl), c .before .before .before .before .before .pre .0)) (λ c. search needs) (λ c. (arm _ _ _ _ _ _ _ readOperand _ _ _ _ (c .before .before .before .before .before .enum-told8 .given .1) refl refl (along _ _ _ _ _ _ (load Operand) _ _ _ (c .before .before .before .before .reg-hl-read .ensures) (c .before .before .load .ensures .0)), c .before .before .load .ensures .1)) (λ c. search needs) (λ c. (arm _ _ _ _ _ _ _ readOperand _ _ _ _ (c .before .before .before .before .enum-told9 .given .1) refl refl (c .before .before .read-hl-dec .ensures .0), c .before .before .read-hl-dec .ensures .1)) (λ c. search needs) (λ c. (arm _ _ _ _ _ _ _ readOperand _ _ _ _ (c .before .before .before .before .enum-told10 .given .1) refl refl (c .before .before .read-hl-inc .ensures .0), c .before .before .read-hl-inc .ensures .1)) (λ c. search needs) (λ c. (arm _ _ _ _ _ _ _ readOperand _ _ _ _ (c .before .before .before .before .before .enum-told11 .given .1) refl refl (along _ _ _ _ _ _ (load Operand) _ _ _ (c .before .before .before .before .reg-bc-read .ensures) (c .before .before .load2 .ensures .0)), c .before .before .load2 .ensures .1)) (λ c. search needs) (λ c. (arm _ _ _ _ _ _ _ readOperand _ _ _ _ (c .before .before .before .before .before .enum-told12 .given .1) refl refl (along _ _ _ _ _ _ (load Operand) _ _ _ (c .before .before .before .before .reg-de-read .ensures) (c .before .before .load3 .ensures .0)), c .before .before .load3 .ensures .1)) (λ c. (arm _ _ _ _ _ _ _ readOperand _ _ _ _ (c .before .enum-told13 .given .1) (c .reg-af-read .ensures) refl (λ k. refl), c .before .before .before .before .before .pre .0)) (λ c. (arm _ _ _ _ _ _ _ readOperand _ _ _ _ (c .before .enum-told14 .given .1) (c .reg-bc-read2 .ensures) refl (λ k. refl), c .before .before .before .before .before .pre .0)) (λ c. (arm _ _ _ _ _ _ _ readOperand _ _ _ _ (c .before .enum-told15 .given .1) (c .reg-de-read2 .ensures) refl (λ k. refl), c .before .before .before .before .before .pre .0)) (λ c. (arm _ _ _ _ _ _ _ readOperand _ _ _ _ (c .before .enum-told16 .given .1) (c .reg-hl-read2 .ensures) refl (λ k. refl), c .before .before .before .before .before .pre .0)) (λ c. (arm _ _ _ _ _ _ _ readOperand _ _ _ _ (c .enum-told17 .given .1) refl refl (λ k. refl), c .before .before .before .before .pre .0)) (λ c. search needs) (λ c. (arm _ _ _ _ _ _ _ readOperand _ _ _ _ (c .before .before .before .before .enum-told18 .given .1) refl refl (c .before .before .read-imm8 .ensures .0), c .before .before .read-imm8 .ensures .1)) (λ c. search needs) (λ c. (arm _ _ _ _ _ _ _ readOperand _ _ _ _ (c .before .before .before .before .enum-told19 .given .1) refl refl (c .before .before .read-signed .ensures .0), c .before .before .read-signed .ensures .1)) (λ c. search needs) (λ c. (arm _ _ _ _ _ _ _ readOperand _ _ _ _ (c .before .before .before .before .enum-told20 .given .1) refl refl (c .before .before .fetch16 .ensures .0), c .before .before .fetch16 .ensures .1)) (λ c. search needs) (λ c. (arm _ _ _ _ _ _ _ readOperand _ _ _ _ (c .before .before .before .before .enum-told21 .given .1) refl refl (c .before .before .read-high .ensures .0), c .before .before .read-high .ensures .1)) (λ c. search needs) (λ c. (arm _ _ _ _ _ _ _ readOperand _ _ _ _ (c .before .before .before .before .before .enum-told22 .given .1) refl refl (along _ _ _ _ _ _ (load Operand) _ _ _ (c .before .before .before .before .high .ensures) (c .before .before .load4 .ensures .0)), c .before .before .load4 .ensures .1)) (λ c. search needs) (λ c. (arm _ _ _ _ _ _ _ readOperand _ _ _ _ (c .before .before .before .before .enum-told23 .given .1) refl refl (c .before .before .read-at16 .ensures .0), c .before .before .read-at16 .ensures .1)) (λ c. search needs) (λ c. (arm _ _ _ _ _ _ _ readOperand _ _ _ _ (c .enum-told25 .given .1) refl refl (λ k. refl), c .before .before .before .before .pre .0)))
+read-operand-spec =
+    tie.close
+    (tie.spec
+    (λ c. search needs) (λ c. search needs) (λ c κs. search needs)
+    (λ c. search needs) (λ c. search needs) (λ c κs. search needs)
+    (λ c. search needs) (λ c. search needs) (λ c κs. search needs)
+    (λ c. search needs) (λ c. search needs) (λ c κs. search needs)
+    (λ c. search needs) (λ c. search needs) (λ c κs. search needs)
+    (λ c. search needs) (λ c. search needs) (λ c κs. search needs)
+    (λ c. search needs) (λ c. search needs) (λ c κs. search needs)
+    (λ c. search needs) (λ c κs. search needs) (λ c κs. search needs)
+    (λ c. search needs) (λ c κs. search needs)
+    (λ c. search needs) (λ c κs. search needs)
+    (λ c. search needs) (λ c κs. search needs) (λ c κs. search needs)
+    (λ c. search needs) (λ c κs. search needs) (λ c κs. search needs)
+    (λ c. search needs) (λ c κs. search needs) (λ c κs. search needs)
+    (λ c. search needs) (λ c κs. search needs) (λ c κs. search needs)
+    (λ c. search needs) (λ c κs. search needs) (λ c κs. search needs)
+    (λ c. search needs) (λ c κs. search needs) (λ c κs. search needs)
+    (λ c. search needs) (λ c κs. search needs)
+    (λ c. search needs) (λ c κs. search needs)
+    (λ c. search needs) (λ c κs. search needs)
+    (λ c. search needs) (λ c κs. search needs)
+    (λ c. search needs) (λ c κs. search needs)
+    (λ c. search needs) (λ c κs. search needs) (λ c κs. search needs)
+    (λ c. search needs) (λ c κs. search needs)
+    (λ c. search needs) (λ c κs. rw (c .enum-told24 .given .1) at (c .before .before .before .before .pre .1))
+    (λ c. search needs) (λ c κs. search needs)
+    (λ c. search needs) (λ c. (arm _ _ _ _ _ _ _ readOperand _ _ _ _ (c .before .before .before .before .before .enum-told .given .1) refl refl (c .before .before .held .ensures .0), c .before .before .held .ensures .1))
+    (λ c. search needs) (λ c. (arm _ _ _ _ _ _ _ readOperand _ _ _ _ (c .before .before .before .before .before .enum-told2 .given .1) refl refl (c .before .before .held2 .ensures .0), c .before .before .held2 .ensures .1))
+    (λ c. search needs) (λ c. (arm _ _ _ _ _ _ _ readOperand _ _ _ _ (c .before .before .before .before .before .enum-told3 .given .1) refl refl (c .before .before .held3 .ensures .0), c .before .before .held3 .ensures .1))
+    (λ c. search needs) (λ c. (arm _ _ _ _ _ _ _ readOperand _ _ _ _ (c .before .before .before .before .before .enum-told4 .given .1) refl refl (c .before .before .held4 .ensures .0), c .before .before .held4 .ensures .1))
+    (λ c. search needs) (λ c. (arm _ _ _ _ _ _ _ readOperand _ _ _ _ (c .before .before .before .before .before .enum-told5 .given .1) refl refl (c .before .before .held5 .ensures .0), c .before .before .held5 .ensures .1))
+    (λ c. search needs) (λ c. (arm _ _ _ _ _ _ _ readOperand _ _ _ _ (c .before .before .before .before .before .enum-told6 .given .1) refl refl (c .before .before .held6 .ensures .0), c .before .before .held6 .ensures .1))
+    (λ c. search needs) (λ c. (arm _ _ _ _ _ _ _ readOperand _ _ _ _ (c .before .before .before .before .before .enum-told7 .given .1) refl refl (c .before .before .held7 .ensures .0), c .before .before .held7 .ensures .1))
+    (λ c. search needs) (λ c. (arm _ _ _ _ _ _ _ readOperand _ _ _ _ (c .before .before .before .before .before .enum-told8 .given .1) refl refl (along _ _ _ _ _ _ (load Operand) _ _ _ (c .before .before .before .before .reg-hl-read .ensures) (c .before .before .load .ensures .0)), c .before .before .load .ensures .1))
+    (λ c. search needs) (λ c. (arm _ _ _ _ _ _ _ readOperand _ _ _ _ (c .before .before .before .before .enum-told9 .given .1) refl refl (c .before .before .read-hl-dec .ensures .0), c .before .before .read-hl-dec .ensures .1))
+    (λ c. search needs) (λ c. (arm _ _ _ _ _ _ _ readOperand _ _ _ _ (c .before .before .before .before .enum-told10 .given .1) refl refl (c .before .before .read-hl-inc .ensures .0), c .before .before .read-hl-inc .ensures .1))
+    (λ c. search needs) (λ c. (arm _ _ _ _ _ _ _ readOperand _ _ _ _ (c .before .before .before .before .before .enum-told11 .given .1) refl refl (along _ _ _ _ _ _ (load Operand) _ _ _ (c .before .before .before .before .reg-bc-read .ensures) (c .before .before .load2 .ensures .0)), c .before .before .load2 .ensures .1))
+    (λ c. search needs) (λ c. (arm _ _ _ _ _ _ _ readOperand _ _ _ _ (c .before .before .before .before .before .enum-told12 .given .1) refl refl (along _ _ _ _ _ _ (load Operand) _ _ _ (c .before .before .before .before .reg-de-read .ensures) (c .before .before .load3 .ensures .0)), c .before .before .load3 .ensures .1))
+    (λ c. search needs) (λ c. (arm _ _ _ _ _ _ _ readOperand _ _ _ _ (c .before .before .before .before .before .enum-told13 .given .1) refl refl (along _ _ _ _ _ _ give _ _ _ (c .before .before .before .before .reg-af-read .ensures) (c .before .before .held8 .ensures .0)), c .before .before .held8 .ensures .1))
+    (λ c. search needs) (λ c. (arm _ _ _ _ _ _ _ readOperand _ _ _ _ (c .before .before .before .before .before .enum-told14 .given .1) refl refl (along _ _ _ _ _ _ give _ _ _ (c .before .before .before .before .reg-bc-read2 .ensures) (c .before .before .held9 .ensures .0)), c .before .before .held9 .ensures .1))
+    (λ c. search needs) (λ c. (arm _ _ _ _ _ _ _ readOperand _ _ _ _ (c .before .before .before .before .before .enum-told15 .given .1) refl refl (along _ _ _ _ _ _ give _ _ _ (c .before .before .before .before .reg-de-read2 .ensures) (c .before .before .held10 .ensures .0)), c .before .before .held10 .ensures .1))
+    (λ c. search needs) (λ c. (arm _ _ _ _ _ _ _ readOperand _ _ _ _ (c .before .before .before .before .before .enum-told16 .given .1) refl refl (along _ _ _ _ _ _ give _ _ _ (c .before .before .before .before .reg-hl-read2 .ensures) (c .before .before .held11 .ensures .0)), c .before .before .held11 .ensures .1))
+    (λ c. search needs) (λ c. (arm _ _ _ _ _ _ _ readOperand _ _ _ _ (c .before .before .before .before .enum-told17 .given .1) refl refl (c .before .before .held12 .ensures .0), c .before .before .held12 .ensures .1))
+    (λ c. search needs) (λ c. (arm _ _ _ _ _ _ _ readOperand _ _ _ _ (c .before .before .before .before .enum-told18 .given .1) refl refl (c .before .before .read-imm8 .ensures .0), c .before .before .read-imm8 .ensures .1))
+    (λ c. search needs) (λ c. (arm _ _ _ _ _ _ _ readOperand _ _ _ _ (c .before .before .before .before .enum-told19 .given .1) refl refl (c .before .before .read-signed .ensures .0), c .before .before .read-signed .ensures .1))
+    (λ c. search needs) (λ c. (arm _ _ _ _ _ _ _ readOperand _ _ _ _ (c .before .before .before .before .enum-told20 .given .1) refl refl (c .before .before .fetch16 .ensures .0), c .before .before .fetch16 .ensures .1))
+    (λ c. search needs) (λ c. (arm _ _ _ _ _ _ _ readOperand _ _ _ _ (c .before .before .before .before .enum-told21 .given .1) refl refl (c .before .before .read-high .ensures .0), c .before .before .read-high .ensures .1))
+    (λ c. search needs) (λ c. (arm _ _ _ _ _ _ _ readOperand _ _ _ _ (c .before .before .before .before .before .enum-told22 .given .1) refl refl (along _ _ _ _ _ _ (load Operand) _ _ _ (c .before .before .before .before .high .ensures) (c .before .before .load4 .ensures .0)), c .before .before .load4 .ensures .1))
+    (λ c. search needs) (λ c. (arm _ _ _ _ _ _ _ readOperand _ _ _ _ (c .before .before .before .before .enum-told23 .given .1) refl refl (c .before .before .read-at16 .ensures .0), c .before .before .read-at16 .ensures .1))
+    (λ c. search needs)
+    (λ c. search needs) (λ c. (arm _ _ _ _ _ _ _ readOperand _ _ _ _ (c .before .before .before .before .enum-told25 .given .1) refl refl (c .before .before .held13 .ensures .0), c .before .before .held13 .ensures .1)))
