@@ -81,13 +81,12 @@ fn traced(far: Far, mem: &mut [u8]) -> Far {
     let cpu = far.cpu;
     let before = cpu.registers;
     let pc = before.pc;
-    let mut out = [0u8; 128];
-    let n = sentences::put_traced(&mut out, mem, pc.0);
+    sentences::tracing(mem, pc.0, before);
     let x = step(cpu, mem);
     let cycles = x.cycles;
     let outcome = x.outcome;
     let last = outcome.number();
-    sentences::traced(&mut out, n, before, cycles.0 as u64, last);
+    sentences::traced(before.f, cycles.0 as u64, last);
     let next = x.cpu;
     Far {
         cpu: next,

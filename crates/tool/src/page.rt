@@ -24,6 +24,13 @@ pub fn print(fd: i32, form: &[u8], values: &[u64], word: &[u8]) {
     say(fd, &out, n);
 }
 
+// The same for a line of at most 128 bytes.
+pub fn print_short(fd: i32, form: &[u8], values: &[u64], word: &[u8]) {
+    let mut out = [0u8; 128];
+    let n = fill(&mut out, 0, form, values, word);
+    say(fd, &out, n);
+}
+
 // The system's own words come after it.
 pub fn fail(form: &[u8], word: &[u8]) {
     let mut out = io::large_buffer();

@@ -1,13 +1,12 @@
 // What the tool says: each sentence and the form of each line, once. In a form # $ % & stand for the next value, as four hexadecimal
 // digits, two, a decimal number or flags, and @ for the word; a sentence that has a number is a line of a text.
 use crate::page::print;
-use crate::page::say;
+use crate::page::print_short;
 use crate::screening::after;
 use crate::screening::byte;
 use lines::line_of;
 use reading::opcode::length_of;
 use sm83::registers::CpuRegisters;
-use words::form::fill;
 
 fn end_line() {
     io::write_all(1, b"\n");
@@ -29,7 +28,7 @@ fn values_of(r: CpuRegisters) -> [u64; 7] {
 }
 
 // An instruction start and its bytes, by a form for each length.
-fn put_start(out: &mut [u8], forms: &[u8], mem: &[u8], a: u16) -> usize {
+fn print_start(forms: &[u8], mem: &[u8], a: u16) {
     let b = byte(mem, a);
     let values = [
         a as u64,
@@ -37,13 +36,11 @@ fn put_start(out: &mut [u8], forms: &[u8], mem: &[u8], a: u16) -> usize {
         byte(mem, after(a, 1)) as u64,
         byte(mem, after(a, 2)) as u64,
     ];
-    fill(out, 0, line_of(forms, length_of(b) as usize), &values, b"")
+    print_short(1, line_of(forms, length_of(b) as usize), &values, b"");
 }
 
 pub fn start(mem: &[u8], a: u16) {
-    let mut out = [0u8; 64];
-    let n = put_start(&mut out, b"\n#  $\n#  $ $\n#  $ $ $", mem, a);
-    say(1, &out, n);
+    print_start(b"\n#  $\n#  $ $\n#  $ $ $", mem, a);
     end_line();
 }
 
@@ -155,13 +152,14 @@ pub fn trace_head() {
     );
 }
 
-// Where a traced step begins, with its bytes in eight places.
-pub fn put_traced(out: &mut [u8], mem: &[u8], a: u16) -> usize {
-    put_start(out, b"\n#  $       \n#  $ $    \n#  $ $ $ ", mem, a)
+// Where a traced step begins: PC, the bytes there and the registers.
+pub fn tracing(mem: &[u8], a: u16, before: CpuRegisters) {
+    print_start(b"\n#  $       \n#  $ $    \n#  $ $ $ ", mem, a);
+    print_short(1, b" # # # # #", &values_of(before), b"");
 }
 
-// What a traced step did, after where it began: the registers before it, its M-cycles and how it ended.
-pub fn traced(out: &mut [u8], at: usize, before: CpuRegisters, cycles: u64, outcome: u16) {
+// What it did: the flags before it, its M-cycles and how it ended.
+pub fn traced(f: u8, cycles: u64, outcome: u16) {
     let brief = line_of(
         b"ran
 loops for ever
@@ -185,9 +183,7 @@ refused 2
 refused 3",
         outcome as usize,
     );
-    let at = fill(out, at, b" # # # # #", &values_of(before), b"");
-    let n = fill(out, at, b" &  %  @\n", &[before.f as u64, cycles], brief);
-    say(1, out, n);
+    print_short(1, b" &  %  @\n", &[f as u64, cycles], brief);
 }
 
 // How far a long run has come, on one line that is written over.
