@@ -7,8 +7,8 @@ use lib.ListN.{length}
 use lib.Seq.{sets}
 use Rattle.sm83.specs.declared.addr.MCycles.{MCycles}
 use Rattle.sm83.specs.declared.registers.CpuRegisters.{CpuRegisters}
-use Rattle.sm83.specs.declared.outcome.LastOutcome.{LastOutcome}
-use Rattle.sm83.specs.Numbers.{lastNumber}
+use Rattle.outcome.specs.declared.LastOutcome.{LastOutcome}
+use Rattle.outcome.specs.Numbers.{lastNumber}
 use Rattle.fields.specs.Bytes.{wordBytes, countBytes}
 use Rattle.fields.specs.Registers.{registerBytes}
 use Rattle.answers.specs.AnswerBlock.{shown, answerFields, answerBytes}

@@ -4,10 +4,10 @@ use mathlib.Core.List.{List, [], _∷_, _++_}
 use Prim.Native.Nat.{ℕ}
 use lib.ListN.{length, take, drop}
 use Rattle.sm83.specs.declared.addr.MCycles.{MCycles}
-use Rattle.sm83.specs.declared.outcome.LastOutcome.{LastOutcome}
-use Rattle.sm83.specs.declared.outcome.Verdict.{Verdict}
+use Rattle.outcome.specs.declared.LastOutcome.{LastOutcome}
+use Rattle.outcome.specs.declared.Verdict.{Verdict}
 use Rattle.definition.specs.Bus.{byteAt}
-use Rattle.sm83.specs.Numbers.{lastNumber, verdictNumber}
+use Rattle.outcome.specs.Numbers.{lastNumber, verdictNumber}
 use Rattle.fields.specs.Bytes.{wordAt, countAt}
 use Rattle.fields.specs.Registers.{registersAt}
 use Rattle.blocks.specs.StateBlock.{flagAt}

@@ -4,11 +4,11 @@ use mathlib.Core.List.{List, [], _∷_, _++_}
 use Prim.Native.Nat.{ℕ}
 use Rattle.sm83.specs.declared.addr.MCycles.{MCycles}
 use Rattle.sm83.specs.declared.registers.CpuRegisters.{CpuRegisters}
-use Rattle.sm83.specs.declared.outcome.Outcome.{Outcome}
-use Rattle.sm83.specs.declared.outcome.Outcome.the-variants.{Normal, InfiniteLoop, Halting, RunningHDMA, Stopped, RunningInterrupt, Breakpoint, Refused}
-use Rattle.sm83.specs.declared.outcome.LastOutcome.{LastOutcome}
-use Rattle.sm83.specs.declared.outcome.LastOutcome.the-variants.{NothingRun, Last}
-use Rattle.sm83.specs.Numbers.{lastNumber}
+use Rattle.outcome.specs.declared.Outcome.{Outcome}
+use Rattle.outcome.specs.declared.Outcome.the-variants.{Normal, InfiniteLoop, Halting, RunningHDMA, Stopped, RunningInterrupt, Breakpoint, Refused}
+use Rattle.outcome.specs.declared.LastOutcome.{LastOutcome}
+use Rattle.outcome.specs.declared.LastOutcome.the-variants.{NothingRun, Last}
+use Rattle.outcome.specs.Numbers.{lastNumber}
 use Rattle.sm83.specs.PowerOn.{registers-zero}
 use Rattle.fields.specs.Bytes.{wordBytes, countBytes, filled}
 use Rattle.fields.specs.Registers.{registerBytes}

@@ -4,9 +4,9 @@ ghost use Rattle.answers.specs.AnswerBlock.{shownBy, shown, answerBytes}
 use fields::bytes::put_count;
 use fields::bytes::put_registers;
 use fields::bytes::put_word;
+use outcome::LastOutcome;
+use outcome::Outcome;
 use sm83::addr::MCycles;
-use sm83::outcome::LastOutcome;
-use sm83::outcome::Outcome;
 use sm83::registers::CpuRegisters;
 
 pub const ANSWER_LENGTH: usize = 24;

@@ -3,8 +3,8 @@ ghost use mathlib.Core.Path.{_≡_};
 ghost use Rattle.answers.specs.ScreenBlock.{named, address, verdictBytes};
 use fields::bytes::flag_byte;
 use fields::bytes::put_word;
+use outcome::Verdict;
 use sm83::addr::Addr;
-use sm83::outcome::Verdict;
 
 pub const VERDICT_LENGTH: usize = 4;
 

@@ -7,20 +7,17 @@ use lib.Dec.{eqb}
 use lib.ListN.{length}
 use borrow.Author.Tests.{eq-eqb, ne-eqb}
 use Rattle.sm83.specs.declared.state.Cpu.{Cpu}
-use Rattle.sm83.specs.declared.outcome.Verdict.{Verdict}
 use Rattle.sm83.specs.Basics.{if_then_else_}
 use Rattle.definition.specs.Bus.{plain}
-use Rattle.sm83.specs.Numbers.{lastNumber, verdictNumber}
+use Rattle.outcome.specs.Numbers.{lastNumber}
 use Rattle.definition.specs.Run.{RunAnswer, runFor}
-use Rattle.routine.specs.Screen.{screen}
 use Rattle.repeat.specs.declared.Ran.{Ran}
 use Rattle.repeat.specs.Ran.{answer}
 use Rattle.blocks.specs.declared.state.StateRead.{StateRead}
 use Rattle.blocks.specs.declared.state.StateRead.the-variants.{State, Malformed}
 use Rattle.blocks.specs.StateBlock.{stateOf, stateBytes}
 use Rattle.answers.specs.AnswerBlock.{answerBytes}
-use Rattle.answers.specs.ScreenBlock.{verdictBytes}
-use Rattle.calls.specs.Left.{malformed, Left, left, written, runFrom, runBlocks, LeftByScreen, leftByScreen, screenBlocks}
+use Rattle.calls.specs.Left.{malformed, Left, left, written, runFrom, runBlocks}
 
 module _ (budget : ℕ) (state memory block : List ℕ) where
   pub wrong-answer-block : (length block ≡ 24 → ⊥) → left malformed state memory block ≡ runBlocks budget state memory block
@@ -38,14 +35,3 @@ module _ (budget : ℕ) (state memory block : List ℕ) where
   both-written cpu r number state' memory' block' h read ran state-left block-left numbered =
       simp (numbered, state-left, block-left)
       (ap (λ (x : RunAnswer (List ℕ)). written x state block) ran ∙ ap (λ (x : StateRead). runFrom x budget state memory block) (sym read) ∙ well-sized h)
-
-module _ (memory : List ℕ) (first last : ℕ) (marks block : List ℕ) where
-  pub wrong-verdict-block : (length block ≡ 4 → ⊥) → leftByScreen malformed marks block ≡ screenBlocks memory first last marks block
-  unfolding screenBlocks
-  wrong-verdict-block h = sym (ap (λ (t : Bool). if t then leftByScreen (verdictNumber (screen memory first last marks .verdict)) (screen memory first last marks .marks) (verdictBytes (screen memory first last marks .verdict) block) else leftByScreen malformed marks block) (ne-eqb (length block) 4 h))
-
-  pub verdict-written : (v : Verdict) (number : ℕ) (marks' block' : List ℕ) → length block ≡ 4 → v ≡ screen memory first last marks .verdict → marks' ≡ screen memory first last marks .marks → block' ≡ verdictBytes v block → number ≡ verdictNumber v → leftByScreen number marks' block' ≡ screenBlocks memory first last marks block
-  unfolding screenBlocks
-  verdict-written v number marks' block' h said marked block-left numbered =
-      simp (numbered, block-left, marked, said)
-      (sym (ap (λ (t : Bool). if t then leftByScreen (verdictNumber (screen memory first last marks .verdict)) (screen memory first last marks .marks) (verdictBytes (screen memory first last marks .verdict) block) else leftByScreen malformed marks block) (eq-eqb (length block) 4 h)))

@@ -8,14 +8,12 @@ use Rattle.sm83.specs.declared.addr.MCycles.{MCycles}
 use Rattle.sm83.specs.declared.state.Cpu.{Cpu}
 use Rattle.sm83.specs.Basics.{if_then_else_}
 use Rattle.definition.specs.Bus.{plain}
-use Rattle.sm83.specs.Numbers.{lastNumber, verdictNumber}
+use Rattle.outcome.specs.Numbers.{lastNumber}
 use Rattle.definition.specs.Run.{RunAnswer, runFor}
-use Rattle.routine.specs.Screen.{Screened, screen}
 use Rattle.blocks.specs.declared.state.StateRead.{StateRead}
 use Rattle.blocks.specs.declared.state.StateRead.the-variants.{State, Malformed}
 use Rattle.blocks.specs.StateBlock.{stateOf, stateBytes}
 use Rattle.answers.specs.AnswerBlock.{answerBytes}
-use Rattle.answers.specs.ScreenBlock.{verdictBytes}
 
 -- no refusal of the document and no outcome has this number
 abbrev pub malformed : ℕ
@@ -43,17 +41,3 @@ runFrom (State cpu) budget state memory answer = written (runFor plain budget cp
 
 unfoldable pub runBlocks : ℕ → List ℕ → List ℕ → List ℕ → Left
 runBlocks budget state memory answer = if eqb (length answer) 24 then runFrom (stateOf state) budget state memory answer else left malformed state memory answer
-
--- the screen's number, marks and answer block
-pub record LeftByScreen : Type 0 where
-  pub number : ℕ
-  pub marks : List ℕ
-  pub answer : List ℕ
-
-abbrev pub leftByScreen : ℕ → List ℕ → List ℕ → LeftByScreen
-leftByScreen n marks answer = record { number = n; marks = marks; answer = answer }
-
-unfoldable pub screenBlocks : List ℕ → ℕ → ℕ → List ℕ → List ℕ → LeftByScreen
-screenBlocks memory first last marks answer =
-    let r : Screened = screen memory first last marks in
-    if eqb (length answer) 4 then leftByScreen (verdictNumber (r .verdict)) (r .marks) (verdictBytes (r .verdict) answer) else leftByScreen malformed marks answer

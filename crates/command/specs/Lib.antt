@@ -1,4 +1,2 @@
 -- What a command line means.
-pub mod Line
-pub mod Names
 pub mod Take

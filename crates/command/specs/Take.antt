@@ -3,19 +3,14 @@
 -- wrong way round, 12 to 17 a bad number (`number`), 18 an address above FFFF. The first mistake stays.
 use mathlib.Core.Bool.{Bool, true, false, _&&_, _||_, not}
 use mathlib.Core.List.{List}
-use Prim.Native.Nat.{ℕ, _+_}
+use Prim.Native.Nat.{ℕ}
 use lib.Dec.{eqb, ltb, leb}
 use lib.ListN.{length, getD}
-use Rattle.number.specs.declared.Reading.{Reading}
 use Rattle.text.specs.Page.{choose}
-use Rattle.number.specs.Number.{numberIn}
-use Rattle.command.specs.declared.line.Line.{Line}
-use Rattle.command.specs.Line.{line, slotOf, stored, mistaken, awaiting}
-use Rattle.command.specs.Names.{commandNumber, optionNumber, stateNumber}
-
--- IMAGE and --out are kept by their words' indices
-abbrev pub isPath : ℕ → Bool
-isPath key = eqb key 0 || eqb key 8
+use Rattle.line.specs.declared.Line.{Line}
+use Rattle.line.specs.Line.{line, slotOf, stored, mistaken, awaiting}
+use Rattle.names.specs.Names.{commandNumber, optionNumber}
+use Rattle.value.specs.Value.{takeValue}
 
 -- --help belongs to each command, --at to screen, run and step, --marks and --map to screen, the rest to run and step, of which --steps and
 -- --trace to run alone
@@ -31,29 +26,6 @@ unfoldable pub missing : Line → ℕ
 missing l =
     choose (ltb (l .command) 4 && eqb (slotOf l 0) 0) 0
     (choose (ltb (l .command) 2 && eqb (slotOf l 1) 0) 1 (choose (ltb (l .command) 2 && eqb (slotOf l 2) 0) 2 13))
-
-abbrev pub numberMistake : ℕ → ℕ
-numberMistake wrong = choose (ltb wrong 7) (11 + wrong) 11
-
--- 0 is for nothing
-abbrev pub kept : ℕ → ℕ
-kept value = choose (ltb value 4294967296) (value + 1) 0
-
-abbrev asNumber : Line → ℕ → ℕ → Reading → Line
-asNumber l key index read =
-    choose (ltb 0 (read .wrong)) (mistaken l (numberMistake (read .wrong)) key index)
-    (choose (not (eqb key 7) && ltb 65535 (read .value)) (mistaken l 18 key index) (stored l key (kept (read .value))))
-
--- any number for --steps, an address for the others
-unfoldable pub takeNumber : Line → ℕ → List ℕ → ℕ → Line
-takeNumber l key word index = asNumber l key index (numberIn word)
-
-unfoldable pub takeState : Line → List ℕ → ℕ → Line
-takeState l word index = choose (eqb (stateNumber word) 0) (mistaken l 9 4 index) (stored l 4 (stateNumber word))
-
-unfoldable pub takeValue : Line → ℕ → List ℕ → ℕ → Line
-takeValue l key word index =
-    choose (isPath key) (stored l key index) (choose (eqb key 4) (takeState l word index) (takeNumber l key word index))
 
 unfoldable pub takeOption : Line → ℕ → ℕ → Line
 takeOption l key index =

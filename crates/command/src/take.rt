@@ -1,58 +1,32 @@
 // One word of a command line, and its end. The first mistake stays.
 ghost use mathlib.Core.Path.{_≡_};
-ghost use Rattle.command.specs.Take.{isPath, allows, missing, numberMistake, kept, isDashed, takeNumber, takeState, takeValue, takeOption, takeDashed, takePlain, takeCommand, takeWord, finished};
-use crate::line::ASKS_HELP;
-use crate::line::FIRST;
-use crate::line::IMAGE;
-use crate::line::LAST;
-use crate::line::Line;
-use crate::line::MAP;
-use crate::line::MARKS;
-use crate::line::OUT;
-use crate::line::RUN;
-use crate::line::SCREEN;
-use crate::line::STATE;
-use crate::line::STEPS;
-use crate::line::TRACE;
-use crate::line::VERSION;
-use crate::names::command_number;
-use crate::names::option_number;
-use crate::names::state_number;
-use number::number_in;
-
-// The mistakes. 12 to 17 are those of a number (`number`).
-pub const NO_COMMAND: u8 = 1;
-
-pub const UNKNOWN_COMMAND: u8 = 2;
-
-pub const UNKNOWN_OPTION: u8 = 3;
-
-pub const NOT_HERE: u8 = 4;
-
-pub const TWICE: u8 = 5;
-
-pub const NO_VALUE: u8 = 6;
-
-pub const TOO_MANY: u8 = 7;
-
-pub const NOT_GIVEN: u8 = 8;
-
-pub const UNKNOWN_STATE: u8 = 9;
-
-pub const REVERSED: u8 = 10;
-
-pub const BAD_NUMBER: u8 = 11;
-
-pub const ABOVE_FFFF: u8 = 18;
-
-// A path is kept by its word's index.
-fn is_path(key: u8) -> bool
-    ensures { λ r. ⌜ r ≡ isPath key ⌝ }
-{
-    let image = key == IMAGE;
-    let out = key == OUT;
-    image | out
-}
+ghost use Rattle.command.specs.Take.{allows, missing, isDashed, takeOption, takeDashed, takePlain, takeCommand, takeWord, finished};
+use line::ASKS_HELP;
+use line::FIRST;
+use line::IMAGE;
+use line::LAST;
+use line::Line;
+use line::MAP;
+use line::MARKS;
+use line::NO_COMMAND;
+use line::NO_VALUE;
+use line::NOT_GIVEN;
+use line::NOT_HERE;
+use line::OUT;
+use line::REVERSED;
+use line::RUN;
+use line::SCREEN;
+use line::STATE;
+use line::STEPS;
+use line::TOO_MANY;
+use line::TRACE;
+use line::TWICE;
+use line::UNKNOWN_COMMAND;
+use line::UNKNOWN_OPTION;
+use line::VERSION;
+use names::command_number;
+use names::option_number;
+use value::take_value;
 
 // Whether an option belongs to a command: --marks and --map to screen, --at to all three, --help to each, the rest to run and step,
 // but --steps and --trace to run alone.
@@ -86,67 +60,6 @@ fn missing(line: Line) -> u8
         return FIRST;
     }
     if no_last { LAST } else { 13 }
-}
-
-fn number_mistake(wrong: u8) -> u8
-    ensures { λ r. ⌜ r ≡ numberMistake wrong ⌝ }
-{
-    let known = wrong < 7;
-    if known {
-        BAD_NUMBER + wrong
-    } else {
-        BAD_NUMBER
-    }
-}
-
-// As a slot keeps a number: 0 is for nothing.
-fn kept(value: u64) -> u64
-    ensures { λ r. ⌜ r ≡ kept value ⌝ }
-{
-    let small = value < 4294967296;
-    if small { value + 1 } else { 0 }
-}
-
-// A number for a slot: any for --steps, an address for the others.
-fn take_number(line: Line, key: u8, word: &[u8], index: usize) -> Line
-    ensures { λ r. ⌜ r ≡ takeNumber line key (now (word .entry)) index ⌝ }
-{
-    let read = number_in(word);
-    let bad = 0 < read.wrong;
-    if bad {
-        return line.mistaken(number_mistake(read.wrong), key, index);
-    }
-    let steps = key == STEPS;
-    let large = !steps & (65535 < read.value);
-    if large {
-        return line.mistaken(ABOVE_FFFF, key, index);
-    }
-    line.stored(key, kept(read.value))
-}
-
-fn take_state(line: Line, word: &[u8], index: usize) -> Line
-    ensures { λ r. ⌜ r ≡ takeState line (now (word .entry)) index ⌝ }
-{
-    let state = state_number(word);
-    let unknown = state == 0;
-    if unknown {
-        return line.mistaken(UNKNOWN_STATE, STATE, index);
-    }
-    line.stored(STATE, state as u64)
-}
-
-fn take_value(line: Line, key: u8, word: &[u8], index: usize) -> Line
-    ensures { λ r. ⌜ r ≡ takeValue line key (now (word .entry)) index ⌝ }
-{
-    let path = is_path(key);
-    if path {
-        return line.stored(key, index as u64);
-    }
-    let state = key == STATE;
-    if state {
-        return take_state(line, word, index);
-    }
-    take_number(line, key, word, index)
 }
 
 fn take_option(line: Line, key: u8, index: usize) -> Line

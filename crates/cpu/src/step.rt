@@ -8,7 +8,7 @@ use crate::exec::exec_instruction;
 use fetching::fetch::fetch_entry;
 use instruction::instruction::Instruction;
 use memory::Port;
-use sm83::outcome::Outcome;
+use outcome::Outcome;
 use sm83::state::Cpu;
 use stages::halt::wake;
 use stages::interrupts::Executed;

@@ -8,8 +8,8 @@ use lib.ListN.{set, length}
 use borrow.Author.Tests.{lt-ltb}
 use Rattle.sm83.specs.declared.state.Cpu.{Cpu}
 use Rattle.sm83.specs.declared.state.HaltMode.the-variants.{NotHalting}
-use Rattle.sm83.specs.declared.outcome.Outcome.{Outcome}
-use Rattle.sm83.specs.declared.outcome.Outcome.the-variants.{Normal, RunningInterrupt}
+use Rattle.outcome.specs.declared.Outcome.{Outcome}
+use Rattle.outcome.specs.declared.Outcome.the-variants.{Normal, RunningInterrupt}
 use Rattle.sm83.specs.Basics.{if_then_else_, highByte, lowByte, back}
 use Rattle.definition.specs.Bus.{Access, Write, Idle, WriteAndTake, Stack, Bus, Ran, runOn, none, isInterrupt, pending, taken, plain}
 use Rattle.sm83.specs.State.{pc, sp, flags, setPC, setSP, setIme, setHalt}

@@ -4,9 +4,9 @@ use Prim.Native.Nat.{ℕ, _+_, _%_, _<_}
 use native.Mathlib.Omega.{arith}
 use lib.Dec.{eqb, leb, ltb, T, ltb→lt}
 use Rattle.sm83.specs.declared.state.HaltMode.the-variants.{HaltRunInterrupt, HaltNoRunInterrupt, HaltBug}
-use Rattle.sm83.specs.declared.outcome.Outcome.{Outcome}
-use Rattle.sm83.specs.declared.outcome.Refusal.the-variants.{IllegalOpcode}
-use Rattle.sm83.specs.declared.outcome.Outcome.the-variants.{Normal, InfiniteLoop, Halting, RunningHDMA, Stopped, RunningInterrupt, Breakpoint, Refused}
+use Rattle.outcome.specs.declared.Outcome.{Outcome}
+use Rattle.outcome.specs.declared.Refusal.the-variants.{IllegalOpcode}
+use Rattle.outcome.specs.declared.Outcome.the-variants.{Normal, InfiniteLoop, Halting, RunningHDMA, Stopped, RunningInterrupt, Breakpoint, Refused}
 use Rattle.sm83.specs.Basics.{if_then_else_, bitAt, highByte, lowByte, next, back, offset, cleared, raised}
 use Rattle.definition.specs.Bus.{Fetch, Operand, isInterrupt}
 use Rattle.sm83.specs.State.{setIme, setLatch, setHalt, setStopped}

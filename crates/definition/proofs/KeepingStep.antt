@@ -7,7 +7,7 @@ use lib.Dec.{T}
 use borrow.Author.Tests.{ltb-true}
 use Rattle.sm83.specs.declared.state.Cpu.{Cpu}
 use Rattle.sm83.specs.declared.state.HaltMode.the-variants.{NotHalting}
-use Rattle.sm83.specs.declared.outcome.Outcome.the-variants.{Normal, Halting, RunningHDMA, Stopped, RunningInterrupt}
+use Rattle.outcome.specs.declared.Outcome.the-variants.{Normal, Halting, RunningHDMA, Stopped, RunningInterrupt}
 use Rattle.sm83.specs.Basics.{if_then_else_, highByte, lowByte, next, back}
 use Rattle.definition.specs.Bus.{Fetch, Stack, isInterrupt}
 use Rattle.sm83.specs.State.{pc, sp, setPC, setSP, setIme, setLatch, setHalt}

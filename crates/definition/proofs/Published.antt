@@ -6,8 +6,8 @@ use Prim.Native.Nat.{ℕ, suc, _+_, _%_, _<_}
 use lib.Dec.{T}
 use lib.ListN.{drop}
 use Rattle.sm83.specs.declared.state.Cpu.{Cpu}
-use Rattle.sm83.specs.declared.outcome.Refusal.the-variants.{IllegalOpcode}
-use Rattle.sm83.specs.declared.outcome.Outcome.the-variants.{Refused}
+use Rattle.outcome.specs.declared.Refusal.the-variants.{IllegalOpcode}
+use Rattle.outcome.specs.declared.Outcome.the-variants.{Refused}
 use Rattle.sm83.specs.Basics.{next, offset}
 use Rattle.definition.specs.Bus.{Fetch, Read, Bus, Ran, runOn, logged, mcycles}
 use Rattle.sm83.specs.State.{pc, sp, flags, setPC}

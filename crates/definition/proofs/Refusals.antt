@@ -11,16 +11,16 @@ use Rattle.sm83.specs.declared.registers.CpuRegisters.{CpuRegisters}
 use Rattle.sm83.specs.declared.state.Cpu.{Cpu}
 use Rattle.sm83.specs.declared.state.HaltMode.{HaltMode}
 use Rattle.sm83.specs.declared.state.HaltMode.the-variants.{NotHalting, HaltRunInterrupt, HaltNoRunInterrupt, HaltBug}
-use Rattle.sm83.specs.declared.outcome.Refusal.{Refusal}
-use Rattle.sm83.specs.declared.outcome.Refusal.the-variants.{MemoryLength, LowBitsOfF, IllegalOpcode}
-use Rattle.sm83.specs.declared.outcome.Outcome.the-variants.{Refused}
+use Rattle.outcome.specs.declared.Refusal.{Refusal}
+use Rattle.outcome.specs.declared.Refusal.the-variants.{MemoryLength, LowBitsOfF, IllegalOpcode}
+use Rattle.outcome.specs.declared.Outcome.the-variants.{Refused}
 use Rattle.sm83.specs.Basics.{if_then_else_}
 use Rattle.definition.specs.Bus.{Access, Read, Fetch, Bus, Ran, logged, runOn, isInterrupt, byteAt, pending, plain}
 use Rattle.sm83.specs.State.{pc, flags, setPC, setIme, setLatch}
 use Rattle.opcodes.specs.Instruction.{Instruction, ILLEGAL, decode}
 use Rattle.definition.specs.Execution.{execute}
 use Rattle.definition.specs.Step.{isAsleep, enabled, fetched, instruction, Ended, ended, Admission, accepted, refusedAs, admission, admitted, stepOn}
-use Rattle.sm83.specs.Numbers.{numberOf}
+use Rattle.outcome.specs.Numbers.{numberOf}
 use Rattle.definition.specs.Run.{notRun, admittedRun, runFor}
 use Rattle.definition.proofs.Compose.{after}
 use Rattle.definition.proofs.PlainCourse.{idles, rousedFrom, woke-plain, passed-plain, same-ime}

@@ -9,19 +9,19 @@ use native.Mathlib.Omega.{arith}
 use lib.Dec.{eqb, T}
 use borrow.Author.Tests.{eqb-true, eqb-false}
 use Rattle.sm83.specs.declared.state.Cpu.{Cpu}
-use Rattle.sm83.specs.declared.outcome.Refusal.{Refusal}
-use Rattle.sm83.specs.declared.outcome.Refusal.the-variants.{MemoryLength, LowBitsOfF}
-use Rattle.sm83.specs.declared.outcome.Outcome.{Outcome}
-use Rattle.sm83.specs.declared.outcome.Outcome.the-variants.{Normal, InfiniteLoop, Halting, RunningHDMA, Stopped, RunningInterrupt, Breakpoint, Refused}
+use Rattle.outcome.specs.declared.Refusal.{Refusal}
+use Rattle.outcome.specs.declared.Refusal.the-variants.{MemoryLength, LowBitsOfF}
+use Rattle.outcome.specs.declared.Outcome.{Outcome}
+use Rattle.outcome.specs.declared.Outcome.the-variants.{Normal, InfiniteLoop, Halting, RunningHDMA, Stopped, RunningInterrupt, Breakpoint, Refused}
 use Rattle.sm83.specs.Basics.{if_then_else_, highByte, back}
 use Rattle.definition.specs.Bus.{Access, Fetch, Stack, Bus, Ran, runOn, isInterrupt, byteAt, plain}
 use Rattle.sm83.specs.State.{pc, sp, flags}
 use Rattle.opcodes.specs.Instruction.{Instruction, does, goes, CB-prefix, HALT, STOP, EI, LD-B-B, ILLEGAL, decode}
 use Rattle.definition.specs.Execution.{execute}
 use Rattle.definition.specs.Step.{enabled, fetched, instruction, Ended, ended, Admission, accepted, refusedAs, admitted, stepOn}
-use Rattle.sm83.specs.Numbers.{numberOf}
+use Rattle.outcome.specs.Numbers.{numberOf}
 use Rattle.definition.specs.Run.{runFor}
-use Rattle.sm83.specs.declared.outcome.LastOutcome.the-variants.{Last}
+use Rattle.outcome.specs.declared.LastOutcome.the-variants.{Last}
 use Rattle.definition.proofs.Course.{Woke, Passed, Course, point1, point2, point3, point4, points5to7, course, woke-pc}
 use Rattle.definition.proofs.NeverRefuses.{refuses, never-run, execute-never}
 use Rattle.opcodes.proofs.Illegal.{isIllegal, illegal-is}

@@ -7,11 +7,11 @@ use native.Mathlib.Nat.{add-zero}
 use native.Mathlib.Omega.{arith}
 use lib.Dec.{T}
 use Rattle.sm83.specs.declared.state.Cpu.{Cpu}
-use Rattle.sm83.specs.declared.outcome.Refusal.{Refusal}
-use Rattle.sm83.specs.declared.outcome.Outcome.{Outcome}
-use Rattle.sm83.specs.declared.outcome.Outcome.the-variants.{Refused}
-use Rattle.sm83.specs.declared.outcome.LastOutcome.{LastOutcome}
-use Rattle.sm83.specs.declared.outcome.LastOutcome.the-variants.{NothingRun, Last}
+use Rattle.outcome.specs.declared.Refusal.{Refusal}
+use Rattle.outcome.specs.declared.Outcome.{Outcome}
+use Rattle.outcome.specs.declared.Outcome.the-variants.{Refused}
+use Rattle.outcome.specs.declared.LastOutcome.{LastOutcome}
+use Rattle.outcome.specs.declared.LastOutcome.the-variants.{NothingRun, Last}
 use Rattle.sm83.specs.Basics.{if_then_else_}
 use Rattle.definition.specs.Bus.{Bus, Ran, mcycles}
 use Rattle.definition.specs.Step.{Ended, Admission, accepted, refusedAs, admission, stepOn}

@@ -5,11 +5,11 @@ use Prim.Native.Nat.{ℕ, zero, suc, _≤_, _<_}
 use native.Mathlib.Omega.{arith}
 use lib.Dec.{T, T-not}
 use Rattle.sm83.specs.declared.state.Cpu.{Cpu}
-use Rattle.sm83.specs.declared.outcome.Refusal.the-variants.{IllegalOpcode}
-use Rattle.sm83.specs.declared.outcome.Outcome.{Outcome}
-use Rattle.sm83.specs.declared.outcome.Outcome.the-variants.{Refused}
-use Rattle.sm83.specs.declared.outcome.LastOutcome.{LastOutcome}
-use Rattle.sm83.specs.declared.outcome.LastOutcome.the-variants.{NothingRun, Last}
+use Rattle.outcome.specs.declared.Refusal.the-variants.{IllegalOpcode}
+use Rattle.outcome.specs.declared.Outcome.{Outcome}
+use Rattle.outcome.specs.declared.Outcome.the-variants.{Refused}
+use Rattle.outcome.specs.declared.LastOutcome.{LastOutcome}
+use Rattle.outcome.specs.declared.LastOutcome.the-variants.{NothingRun, Last}
 use Rattle.sm83.specs.Basics.{if_then_else_}
 use Rattle.definition.specs.Bus.{Bus, mcycles}
 use Rattle.definition.specs.Step.{Admission, accepted, refusedAs, admission, stepOn}

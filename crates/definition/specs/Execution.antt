@@ -5,9 +5,9 @@ use lib.Dec.{eqb}
 use Rattle.sm83.specs.declared.registers.CpuRegisters.{CpuRegisters}
 use Rattle.sm83.specs.declared.state.Cpu.{Cpu}
 use Rattle.sm83.specs.declared.state.HaltMode.the-variants.{HaltRunInterrupt, HaltNoRunInterrupt, HaltBug}
-use Rattle.sm83.specs.declared.outcome.Refusal.the-variants.{IllegalOpcode}
-use Rattle.sm83.specs.declared.outcome.Outcome.{Outcome}
-use Rattle.sm83.specs.declared.outcome.Outcome.the-variants.{Normal, InfiniteLoop, Breakpoint, Refused}
+use Rattle.outcome.specs.declared.Refusal.the-variants.{IllegalOpcode}
+use Rattle.outcome.specs.declared.Outcome.{Outcome}
+use Rattle.outcome.specs.declared.Outcome.the-variants.{Normal, InfiniteLoop, Breakpoint, Refused}
 use Rattle.sm83.specs.Basics.{if_then_else_, cleared, raised, word, highByte, lowByte, next, back, offset}
 use Rattle.definition.specs.Bus.{Kind, Fetch, Operand, Stack, Ask, read, write, idle, peek, isInterrupt}
 use Rattle.sm83.specs.State.{pairAF, pairBC, pairDE, pairHL, writeA, writeF, writeSP, writePC, putBC, putDE, putHL, writeBC, writeDE, writeHL, writeAF, onRegisters, setPC, setIme, setLatch, setHalt, setStopped}

@@ -7,10 +7,10 @@ use lib.ListN.{getD}
 use Rattle.sm83.specs.declared.state.Cpu.{Cpu}
 use Rattle.sm83.specs.declared.state.HaltMode.{HaltMode}
 use Rattle.sm83.specs.declared.state.HaltMode.the-variants.{NotHalting, HaltRunInterrupt, HaltNoRunInterrupt, HaltBug}
-use Rattle.sm83.specs.declared.outcome.Refusal.{Refusal}
-use Rattle.sm83.specs.declared.outcome.Refusal.the-variants.{MemoryLength, LowBitsOfF}
-use Rattle.sm83.specs.declared.outcome.Outcome.{Outcome}
-use Rattle.sm83.specs.declared.outcome.Outcome.the-variants.{Normal, Halting, RunningHDMA, Stopped, RunningInterrupt, Refused}
+use Rattle.outcome.specs.declared.Refusal.{Refusal}
+use Rattle.outcome.specs.declared.Refusal.the-variants.{MemoryLength, LowBitsOfF}
+use Rattle.outcome.specs.declared.Outcome.{Outcome}
+use Rattle.outcome.specs.declared.Outcome.the-variants.{Normal, Halting, RunningHDMA, Stopped, RunningInterrupt, Refused}
 use Rattle.sm83.specs.Basics.{if_then_else_, highByte, lowByte, next, back}
 use Rattle.definition.specs.Bus.{Fetch, Stack, Ask, answer, writeAndTake, isInterrupt, Bus, Ran, runOn}
 use Rattle.sm83.specs.State.{pc, sp, flags, setPC, setSP, setIme, setLatch, setHalt}

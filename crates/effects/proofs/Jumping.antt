@@ -6,7 +6,7 @@ use Prim.Native.Nat.{ℕ, _+_, _%_}
 use lib.Dec.{eqb, ltb}
 use Rattle.sm83.specs.declared.state.Cpu.{Cpu}
 use Rattle.sm83.specs.declared.state.HaltMode.the-variants.{HaltRunInterrupt, HaltNoRunInterrupt, HaltBug}
-use Rattle.sm83.specs.declared.outcome.Outcome.the-variants.{Normal, InfiniteLoop}
+use Rattle.outcome.specs.declared.Outcome.the-variants.{Normal, InfiniteLoop}
 use Rattle.sm83.specs.Basics.{if_then_else_}
 use Rattle.definition.specs.Bus.{Ask, pending}
 use Rattle.definition.specs.Step.{Ended}

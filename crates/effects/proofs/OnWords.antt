@@ -3,12 +3,12 @@ use mathlib.Core.Path.{_≡_, refl, ap, _∙_}
 use mathlib.Core.List.{List}
 use Prim.Native.Nat.{ℕ, _+_, _%_}
 use Rattle.sm83.specs.declared.state.Cpu.{Cpu}
-use Rattle.sm83.specs.declared.outcome.Outcome.the-variants.{Normal}
+use Rattle.outcome.specs.declared.Outcome.the-variants.{Normal}
 use Rattle.sm83.specs.State.{pairHL, setSP, setF}
 use Rattle.opcodes.specs.Arithmetic.{wordSumFlags}
 use Rattle.definition.specs.Execution.{_>>_, wait, push, pop}
-use Rattle.alu.specs.declared.words.ComputedWord.{ComputedWord}
-use Rattle.alu.specs.Words.{wordWith}
+use Rattle.alu16.specs.declared.ComputedWord.{ComputedWord}
+use Rattle.alu16.specs.Words.{wordWith}
 use Rattle.memory.specs.declared.Port.{Port}
 use Rattle.memory.specs.World.{leads, counted}
 use Rattle.effects.specs.declared.answers.Worked.{Worked}

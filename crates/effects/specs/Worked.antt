@@ -1,7 +1,7 @@
 -- The struct that the code answers the middle of an instruction in, and what was made of it.
 use Prim.Native.Nat.{ℕ, _+_, _%_}
-use Rattle.sm83.specs.declared.outcome.Outcome.{Outcome}
-use Rattle.sm83.specs.declared.outcome.Outcome.the-variants.{Normal}
+use Rattle.outcome.specs.declared.Outcome.{Outcome}
+use Rattle.outcome.specs.declared.Outcome.the-variants.{Normal}
 use Rattle.sm83.specs.declared.state.Cpu.{Cpu}
 use Rattle.sm83.specs.Basics.{lowByte}
 use Rattle.sm83.specs.State.{sp, setF}

@@ -1,6 +1,6 @@
 // What the middle of an instruction answers: the state and the port as it leaves them, the value that is to be written, and the outcome.
 use memory::Port;
-use sm83::outcome::Outcome;
+use outcome::Outcome;
 use sm83::state::Cpu;
 
 pub struct Worked {

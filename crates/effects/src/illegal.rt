@@ -1,15 +1,15 @@
 // Refusal 3.
 ghost use mathlib.Core.Path.{_≡_};
-ghost use Rattle.sm83.specs.declared.outcome.Outcome.the-variants.{Refused};
-ghost use Rattle.sm83.specs.declared.outcome.Refusal.the-variants.{IllegalOpcode};
+ghost use Rattle.outcome.specs.declared.Outcome.the-variants.{Refused};
+ghost use Rattle.outcome.specs.declared.Refusal.the-variants.{IllegalOpcode};
 ghost use Rattle.sm83.specs.State.{setPC};
 ghost use Rattle.effects.specs.Worked.{worked};
 use crate::answers::Worked;
 use accesses::answers::with_registers;
 use memory::Port;
+use outcome::Outcome;
+use outcome::Refusal;
 use sm83::addr::Addr;
-use sm83::outcome::Outcome;
-use sm83::outcome::Refusal;
 use sm83::state::Cpu;
 
 // PC as before the fetch. What points 3 and 5 did stays, and so does the end of HaltBug.

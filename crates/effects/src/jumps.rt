@@ -3,7 +3,7 @@ ghost use mathlib.Core.Bool.{_&&_};
 ghost use mathlib.Core.Path.{_≡_};
 ghost use lib.Dec.{eqb};
 ghost use lib.ListN.{length};
-ghost use Rattle.sm83.specs.declared.outcome.Outcome.the-variants.{Normal, InfiniteLoop};
+ghost use Rattle.outcome.specs.declared.Outcome.the-variants.{Normal, InfiniteLoop};
 ghost use Rattle.sm83.specs.Basics.{if_then_else_};
 ghost use Rattle.sm83.specs.State.{setPC};
 ghost use Rattle.memory.specs.World.{counted};
@@ -18,8 +18,8 @@ use accesses::stack::stack_push;
 use instruction::condition::Condition;
 use memory::Port;
 use memory::idle;
+use outcome::Outcome;
 use sm83::addr::Addr;
-use sm83::outcome::Outcome;
 use sm83::registers::CpuRegisters;
 use sm83::state::Cpu;
 

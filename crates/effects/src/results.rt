@@ -1,13 +1,13 @@
 // What comes of an operation: a value to be written, with flags or with none, or A and F at once.
 ghost use mathlib.Core.Path.{_≡_};
-ghost use Rattle.sm83.specs.declared.outcome.Outcome.the-variants.{Normal};
+ghost use Rattle.outcome.specs.declared.Outcome.the-variants.{Normal};
 ghost use Rattle.sm83.specs.State.{onRegisters, writeA, writeF};
 ghost use Rattle.effects.specs.Worked.{worked};
 use crate::answers::Worked;
 use accesses::answers::with_registers;
 use flags::Computed;
 use memory::Port;
-use sm83::outcome::Outcome;
+use outcome::Outcome;
 use sm83::state::Cpu;
 
 pub fn plain(cpu: Cpu, port: Port, value: u16) -> Worked

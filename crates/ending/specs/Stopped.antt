@@ -1,7 +1,7 @@
 -- Which last outcomes end a run.
 use mathlib.Core.Bool.{Bool, false}
-use Rattle.sm83.specs.declared.outcome.LastOutcome.{LastOutcome}
-use Rattle.sm83.specs.declared.outcome.LastOutcome.the-variants.{NothingRun, Last}
+use Rattle.outcome.specs.declared.LastOutcome.{LastOutcome}
+use Rattle.outcome.specs.declared.LastOutcome.the-variants.{NothingRun, Last}
 use Rattle.definition.specs.Run.{stopsRun}
 
 -- a run of which nothing has been run goes on

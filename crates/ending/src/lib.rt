@@ -2,8 +2,8 @@
 ghost use mathlib.Core.Path.{_≡_};
 ghost use Rattle.definition.specs.Run.{stopsRun};
 ghost use Rattle.ending.specs.Stopped.{stoppedBy};
-use sm83::outcome::LastOutcome;
-use sm83::outcome::Outcome;
+use outcome::LastOutcome;
+use outcome::Outcome;
 
 // After InfiniteLoop, Breakpoint, Stopped or a refusal.
 pub fn stops(outcome: Outcome) -> bool

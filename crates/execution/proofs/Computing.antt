@@ -6,9 +6,9 @@ use Prim.Native.Nat.{ℕ, _%_, _<_}
 use native.Mathlib.Omega.{arith}
 use lib.Dec.{T, eqb, ltb, ltb→lt}
 use Rattle.sm83.specs.declared.state.Cpu.{Cpu}
-use Rattle.sm83.specs.declared.outcome.Outcome.{Outcome}
-use Rattle.sm83.specs.declared.outcome.Outcome.the-variants.{Normal, InfiniteLoop, Breakpoint, Refused}
-use Rattle.sm83.specs.declared.outcome.Refusal.the-variants.{IllegalOpcode}
+use Rattle.outcome.specs.declared.Outcome.{Outcome}
+use Rattle.outcome.specs.declared.Outcome.the-variants.{Normal, InfiniteLoop, Breakpoint, Refused}
+use Rattle.outcome.specs.declared.Refusal.the-variants.{IllegalOpcode}
 use Rattle.sm83.specs.Basics.{if_then_else_, lowByte, next, back, cleared, raised}
 use Rattle.sm83.specs.State.{onRegisters, writeA, writeF, setF, setPC, setIme, setLatch, setStopped}
 use Rattle.opcodes.specs.Arithmetic.{Result, aluOp, accOp, shiftOp, increment, decrement, difference, bitTest}

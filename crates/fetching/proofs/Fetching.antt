@@ -7,7 +7,7 @@ use lib.Dec.{eqb, T}
 use borrow.Author.Tests.{ne-eqb}
 use Rattle.sm83.specs.declared.state.Cpu.{Cpu}
 use Rattle.sm83.specs.declared.state.HaltMode.the-variants.{NotHalting}
-use Rattle.sm83.specs.declared.outcome.Outcome.{Outcome}
+use Rattle.outcome.specs.declared.Outcome.{Outcome}
 use Rattle.sm83.specs.Basics.{if_then_else_, next}
 use Rattle.definition.specs.Bus.{Fetch, Ask, read, byteAt}
 use Rattle.sm83.specs.State.{pc, setPC, setIme, setLatch, setHalt}

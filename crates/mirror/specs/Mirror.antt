@@ -2,9 +2,9 @@
 use mathlib.Core.Bool.{Bool, true, false, not, _&&_}
 use Prim.Native.Nat.{ℕ, _+_, _%_}
 use lib.Dec.{eqb}
-use Rattle.sm83.specs.declared.outcome.Refusal.the-variants.{IllegalOpcode}
-use Rattle.sm83.specs.declared.outcome.Outcome.{Outcome}
-use Rattle.sm83.specs.declared.outcome.Outcome.the-variants.{Normal, InfiniteLoop, Breakpoint, Refused}
+use Rattle.outcome.specs.declared.Refusal.the-variants.{IllegalOpcode}
+use Rattle.outcome.specs.declared.Outcome.{Outcome}
+use Rattle.outcome.specs.declared.Outcome.the-variants.{Normal, InfiniteLoop, Breakpoint, Refused}
 use Rattle.instruction.specs.declared.condition.Condition.{Condition}
 use Rattle.instruction.specs.declared.condition.Condition.the-variants as cn
 use Rattle.instruction.specs.declared.opcode.Opcode.{Opcode}

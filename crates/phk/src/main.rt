@@ -2,13 +2,13 @@
 // line means in `command`; here the line is read and obeyed.
 mod machine;
 
-use command::line::ASKS_HELP;
-use command::line::HELP;
-use command::line::Line;
-use command::line::SCREEN;
-use command::line::VERSION;
 use command::take::finish;
 use command::take::take;
+use line::ASKS_HELP;
+use line::HELP;
+use line::Line;
+use line::SCREEN;
+use line::VERSION;
 use tool::file;
 use tool::help;
 use tool::mistakes;

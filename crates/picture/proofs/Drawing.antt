@@ -11,14 +11,14 @@ use lib.Seq.{take-all, take-suc-set}
 use types.Run.{OneOf, miss}
 use denote.Enum.Declared.{tagOf}
 use Rattle.sm83.specs.declared.addr.Addr.{Addr}
-use Rattle.sm83.specs.declared.outcome.Refusal.{Refusal}
-use Rattle.sm83.specs.declared.outcome.Verdict.{Verdict}
-use Rattle.sm83.specs.declared.outcome.Verdict.the-variants.{Passes, Refused, RefusedAt}
+use Rattle.outcome.specs.declared.Refusal.{Refusal}
+use Rattle.outcome.specs.declared.Verdict.{Verdict}
+use Rattle.outcome.specs.declared.Verdict.the-variants.{Passes, Refused, RefusedAt}
 use Rattle.sm83.specs.Basics.{next}
 use Rattle.definition.specs.Bus.{byteAt}
-use Rattle.sm83.specs.Numbers.{numberOf}
+use Rattle.outcome.specs.Numbers.{numberOf}
 use Rattle.opcodes.specs.Instruction.{decode, lengthOf}
-use Rattle.sm83.proofs.outcome.Verdict.{the-type}
+use Rattle.outcome.proofs.Verdict.{the-type}
 use Rattle.picture.specs.declared.kinds.Stop.{Stop}
 use Rattle.picture.specs.declared.kinds.Cell.{Cell}
 use Rattle.picture.specs.Kinds.{nowhere, stopAt, stopOf, cell, startKind, cellOf, refused, cellAt, kindsFrom}

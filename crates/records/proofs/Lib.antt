@@ -2,3 +2,5 @@
 pub mod SameBytes
 pub mod Within
 pub mod Noting
+pub mod Fronts
+pub mod Copied

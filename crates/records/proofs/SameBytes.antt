@@ -7,6 +7,7 @@ use native.Mathlib.Omega.{arith}
 use lib.Dec.{eqb}
 use lib.ListN.{set}
 use borrow.Author.Tests.{eq-eqb, eqb-true}
+use Rattle.sm83.specs.Basics.{if_then_else_}
 use Rattle.definition.specs.Bus.{byteAt}
 use Rattle.fields.specs.Bytes.{wordAt}
 use Rattle.records.specs.Bytes.{sameBytes, patched}
@@ -18,6 +19,11 @@ and-first false b h = h
 pub and-second : (a b : Bool) → a && b ≡ true → b ≡ true
 and-second true b h = h
 and-second false b h = let z : _≡_ {A = ℕ} 0 1 = cc in absurd (omega arith)
+
+pub chosen : (t b : Bool) → (if t then b else false) ≡ true → b ≡ true
+chosen true b h = h
+chosen false true h = refl
+chosen false false h = h
 
 pub same-refl : (s : List ℕ) → sameBytes s s ≡ true
 unfolding sameBytes

@@ -1,4 +1,5 @@
 // A record of the stored sample: its layout, the memory that it tells, and what of it is counted.
+pub mod front;
 pub mod layout;
 pub mod notes;
 pub mod slices;

@@ -6,9 +6,9 @@ use Prim.Native.Nat.{ℕ, zero, suc, _+_, _-_, _*_, _%_, _<_, _≤_}
 use native.Mathlib.Omega.{arith}
 use lib.ListN.{length}
 use Rattle.sm83.specs.declared.state.Cpu.{Cpu}
-use Rattle.sm83.specs.declared.outcome.Outcome.{Outcome}
-use Rattle.sm83.specs.declared.outcome.LastOutcome.{LastOutcome}
-use Rattle.sm83.specs.declared.outcome.LastOutcome.the-variants.{NothingRun, Last}
+use Rattle.outcome.specs.declared.Outcome.{Outcome}
+use Rattle.outcome.specs.declared.LastOutcome.{LastOutcome}
+use Rattle.outcome.specs.declared.LastOutcome.the-variants.{NothingRun, Last}
 use Rattle.sm83.specs.Basics.{if_then_else_}
 use Rattle.definition.specs.Bus.{Ran, plain, mcycles, runOn}
 use Rattle.sm83.specs.State.{flags}

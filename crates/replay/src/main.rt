@@ -1,5 +1,4 @@
 // Replays the stored sample: replay FILE. Each record is asked of the core and every value compared; then what was met is counted.
-mod report;
 mod rounds;
 
 use libc::STDERR_FILENO;

@@ -6,10 +6,10 @@ ghost use Rattle.sm83.specs.Basics.{bit};
 ghost use Rattle.sample.specs.Replay.{agrees, differs};
 use fields::bytes::word_at;
 use libc::STDOUT_FILENO;
+use records::front::front_size;
 use records::layout::wide;
 use records::notes::note;
 use sample::agrees;
-use sample::front_size;
 
 fn say(words: &[u8], number: usize) {
     io::write_all(STDOUT_FILENO, words);

@@ -4,8 +4,8 @@ use mathlib.Core.Bool.{Bool, true, false}
 use Prim.Native.Nat.{ℕ, zero, suc, _<_}
 use native.Mathlib.Omega.{arith}
 use Rattle.sm83.specs.declared.state.Cpu.{Cpu}
-use Rattle.sm83.specs.declared.outcome.LastOutcome.{LastOutcome}
-use Rattle.sm83.specs.declared.outcome.LastOutcome.the-variants.{NothingRun, Last}
+use Rattle.outcome.specs.declared.LastOutcome.{LastOutcome}
+use Rattle.outcome.specs.declared.LastOutcome.the-variants.{NothingRun, Last}
 use Rattle.sm83.specs.Basics.{if_then_else_}
 use Rattle.definition.specs.Bus.{Bus, mcycles}
 use Rattle.definition.specs.Step.{Admission, accepted, admission, stepOn}

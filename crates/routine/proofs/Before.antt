@@ -8,9 +8,9 @@ use native.Mathlib.Omega.{arith}
 use lib.Dec.{eqb, ltb}
 use lib.ListN.{length}
 use borrow.Author.Tests.{ltb-true, ltb-false, eqb-true, eqb-false, lt-ltb, le-ltb, eq-eqb, ne-eqb}
-use Rattle.sm83.specs.declared.outcome.Refusal.{Refusal}
-use Rattle.sm83.specs.declared.outcome.Refusal.the-variants.{MemoryLength, WindowReversed, WindowTooLong, MarksLength}
-use Rattle.sm83.specs.declared.outcome.Verdict.the-variants.{Refused}
+use Rattle.outcome.specs.declared.Refusal.{Refusal}
+use Rattle.outcome.specs.declared.Refusal.the-variants.{MemoryLength, WindowReversed, WindowTooLong, MarksLength}
+use Rattle.outcome.specs.declared.Verdict.the-variants.{Refused}
 use Rattle.routine.specs.Rules.{Rules}
 use Rattle.routine.specs.Screen.{verdict, Screened, marksAfter, untouched, screen}
 use Rattle.routine.proofs.Findings.{Shows}

@@ -6,7 +6,7 @@ use native.Mathlib.Omega.{arith}
 use lib.Dec.{T}
 use Rattle.sm83.specs.declared.state.Cpu.{Cpu}
 use Rattle.sm83.specs.declared.state.HaltMode.the-variants.{NotHalting}
-use Rattle.sm83.specs.declared.outcome.Outcome.the-variants.{Normal}
+use Rattle.outcome.specs.declared.Outcome.the-variants.{Normal}
 use Rattle.sm83.specs.Basics.{next}
 use Rattle.definition.specs.Bus.{Ask, answer, read, write, idle, peek, writeAndTake}
 use Rattle.sm83.specs.State.{pc, sp, flags, setPC, setSP, setF, onRegisters}

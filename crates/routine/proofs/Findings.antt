@@ -5,11 +5,11 @@ use mathlib.Core.List.{List, _∷_}
 use Prim.Native.Nat.{ℕ, _≤_, _<_}
 use native.Mathlib.Omega.{arith}
 use lib.Dec.{T}
-use Rattle.sm83.specs.declared.outcome.Refusal.{Refusal}
-use Rattle.sm83.specs.declared.outcome.Refusal.the-variants.{ForbiddenOpcode, PastTheEnd, FallsThrough, JumpUnmarked}
-use Rattle.sm83.specs.declared.outcome.Verdict.{Verdict}
-use Rattle.sm83.specs.declared.outcome.Verdict.the-variants.{Passes, Refused, RefusedAt}
-use Rattle.sm83.specs.Numbers.{numberOf}
+use Rattle.outcome.specs.declared.Refusal.{Refusal}
+use Rattle.outcome.specs.declared.Refusal.the-variants.{ForbiddenOpcode, PastTheEnd, FallsThrough, JumpUnmarked}
+use Rattle.outcome.specs.declared.Verdict.{Verdict}
+use Rattle.outcome.specs.declared.Verdict.the-variants.{Passes, Refused, RefusedAt}
+use Rattle.outcome.specs.Numbers.{numberOf}
 use Rattle.routine.specs.Flow.{flowAt, past, isForbidden, endsRoutine}
 use Rattle.routine.specs.Rules.{Start, JumpsTo}
 use Rattle.routine.specs.Screen.{firstOf}

@@ -6,7 +6,7 @@ use native.Mathlib.Omega.{arith}
 use lib.Dec.{T}
 use lib.ListN.{length}
 use Rattle.sm83.specs.declared.state.Cpu.{Cpu}
-use Rattle.sm83.specs.declared.outcome.Verdict.the-variants.{Passes}
+use Rattle.outcome.specs.declared.Verdict.the-variants.{Passes}
 use Rattle.definition.specs.Bus.{plain}
 use Rattle.sm83.specs.State.{pc}
 use Rattle.definition.specs.Run.{runFor}

@@ -6,7 +6,7 @@ use native.Mathlib.Omega.{arith}
 use lib.Dec.{T}
 use lib.ListN.{length}
 use Rattle.sm83.specs.declared.state.Cpu.{Cpu}
-use Rattle.sm83.specs.declared.outcome.LastOutcome.{LastOutcome}
+use Rattle.outcome.specs.declared.LastOutcome.{LastOutcome}
 use Rattle.definition.specs.Bus.{Bus, plain}
 use Rattle.sm83.specs.State.{pc}
 use Rattle.definition.specs.Run.{runFor}

@@ -9,9 +9,9 @@ use native.Mathlib.Omega.{arith}
 use lib.Dec.{T, T-not, not-T, eqb, eqb→eq}
 use borrow.Author.Tests.{eq-eqb}
 use mir.Facts.{and-yes, yes-and, T-not-not}
-use Rattle.sm83.specs.declared.outcome.Refusal.{Refusal}
-use Rattle.sm83.specs.declared.outcome.Refusal.the-variants.{FallsThrough, JumpUnmarked}
-use Rattle.sm83.specs.declared.outcome.Verdict.{Verdict}
+use Rattle.outcome.specs.declared.Refusal.{Refusal}
+use Rattle.outcome.specs.declared.Refusal.the-variants.{FallsThrough, JumpUnmarked}
+use Rattle.outcome.specs.declared.Verdict.{Verdict}
 use Rattle.sm83.specs.Basics.{if_then_else_}
 use Rattle.routine.specs.Flow.{flowAt, past, endsRoutine}
 use Rattle.routine.specs.Rules.{Start}

@@ -4,10 +4,10 @@ use mathlib.Core.List.{List, [], _∷_}
 use Prim.Native.Nat.{ℕ, zero, suc, _+_, _-_}
 use lib.Dec.{eqb, leb, ltb}
 use lib.ListN.{getD, length, replicate}
-use Rattle.sm83.specs.declared.outcome.Refusal.{Refusal}
-use Rattle.sm83.specs.declared.outcome.Refusal.the-variants.{MemoryLength, WindowReversed, WindowTooLong, MarksLength, ForbiddenOpcode, PastTheEnd, FallsThrough, JumpUnmarked}
-use Rattle.sm83.specs.declared.outcome.Verdict.{Verdict}
-use Rattle.sm83.specs.declared.outcome.Verdict.the-variants.{Passes, Refused, RefusedAt}
+use Rattle.outcome.specs.declared.Refusal.{Refusal}
+use Rattle.outcome.specs.declared.Refusal.the-variants.{MemoryLength, WindowReversed, WindowTooLong, MarksLength, ForbiddenOpcode, PastTheEnd, FallsThrough, JumpUnmarked}
+use Rattle.outcome.specs.declared.Verdict.{Verdict}
+use Rattle.outcome.specs.declared.Verdict.the-variants.{Passes, Refused, RefusedAt}
 use Rattle.sm83.specs.Basics.{if_then_else_}
 use Rattle.sm83.specs.State.{addr}
 use Rattle.opcodes.specs.Instruction.{operands}

@@ -7,9 +7,9 @@ use native.Mathlib.Omega.{arith}
 use lib.Dec.{eqb}
 use lib.ListN.{length}
 use Rattle.sm83.specs.declared.state.Cpu.{Cpu}
-use Rattle.sm83.specs.declared.outcome.Refusal.{Refusal}
-use Rattle.sm83.specs.declared.outcome.Refusal.the-variants.{MemoryLength, LowBitsOfF}
-use Rattle.sm83.specs.declared.outcome.LastOutcome.the-variants.{NothingRun, Last}
+use Rattle.outcome.specs.declared.Refusal.{Refusal}
+use Rattle.outcome.specs.declared.Refusal.the-variants.{MemoryLength, LowBitsOfF}
+use Rattle.outcome.specs.declared.LastOutcome.the-variants.{NothingRun, Last}
 use Rattle.sm83.specs.Basics.{if_then_else_}
 use Rattle.definition.specs.Bus.{Ran, plain, mcycles}
 use Rattle.sm83.specs.State.{flags}

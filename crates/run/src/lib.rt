@@ -4,12 +4,12 @@ ghost use Rattle.definition.specs.Bus.{plain};
 ghost use Rattle.definition.specs.Run.{notRun, runFor};
 ghost use Rattle.repeat.specs.Ran.{answer};
 ghost use Rattle.run.specs.Answers.{outcomeOf, Answers};
+use outcome::LastOutcome;
+use outcome::Outcome;
+use outcome::Refusal;
 use repeat::Ran;
 use repeat::repeat;
 use sm83::addr::MCycles;
-use sm83::outcome::LastOutcome;
-use sm83::outcome::Outcome;
-use sm83::outcome::Refusal;
 use sm83::state::Cpu;
 
 pub struct Stepped {

@@ -7,7 +7,9 @@ use lib.ListN.{length, take, drop}
 use Rattle.sm83.specs.Basics.{if_then_else_, bit}
 use Rattle.fields.specs.Bytes.{wordAt}
 use Rattle.records.specs.Record.{kindOf, nameLength, memoryLength, listed, changed}
-use Rattle.sample.specs.Told.{asked, told, sameLeft, askedScreen, toldScreen, sameScreen}
+use Rattle.records.specs.Front.{frontSize}
+use Rattle.sample.specs.Told.{asked, told, sameLeft}
+use Rattle.windows.specs.Window.{agreesWindow}
 
 -- the longest memory that a record may ask for
 abbrev pub mostMemory : ℕ
@@ -17,14 +19,8 @@ mostMemory = 131072
 abbrev pub runSize : List ℕ → ℕ
 runSize r = 87 + 3 * listed r + 3 * changed r + nameLength r
 
-abbrev pub windowSize : List ℕ → ℕ
-windowSize r = 19 + 2 * changed r + 3 * listed r + nameLength r
-
 unfoldable pub agreesRun : List ℕ → Bool
 agreesRun r = if eqb (length r) (runSize r) then sameLeft (asked r (memoryLength r)) (told r (memoryLength r)) else false
-
-unfoldable pub agreesWindow : List ℕ → Bool
-agreesWindow r = if eqb (length r) (windowSize r) then sameScreen (askedScreen r (memoryLength r)) (toldScreen r) else false
 
 unfoldable pub agrees : List ℕ → Bool
 agrees r =
@@ -34,10 +30,6 @@ agrees r =
     else (if eqb (kindOf r) 2 then agreesWindow r else false)) else false) else false
 
 -- A sample: how many records it holds, two bytes, and the records one after the other.
-
--- the length of the record at the front, as its first two bytes say; 0 if no whole record stands there
-abbrev pub frontSize : List ℕ → ℕ
-frontSize s = if leb 2 (length s) then (if leb (wordAt s 0) (length s) then wordAt s 0 else 0) else 0
 
 -- how many of so many records the core does not agree with; one that is not whole ends the count, and so does a rest behind the last
 unfoldable pub differing : ℕ → List ℕ → ℕ

@@ -1,17 +1,14 @@
--- What the core answers to a record, what the record says of it, and that the two are the same.
+-- What the core answers to a record of a step or a run, what the record says of it, and that the two are the same.
 use mathlib.Core.Bool.{Bool, _&&_}
 use mathlib.Core.List.{List}
 use Prim.Native.Nat.{ℕ, _+_, _*_}
 use lib.Dec.{eqb}
 use lib.ListN.{replicate}
 use Rattle.sm83.specs.Basics.{if_then_else_}
-use Rattle.definition.specs.Bus.{byteAt}
 use Rattle.fields.specs.Bytes.{wordAt}
-use Rattle.calls.specs.Left.{Left, left, runBlocks, LeftByScreen, leftByScreen, screenBlocks}
+use Rattle.calls.specs.Left.{Left, left, runBlocks}
 use Rattle.records.specs.Bytes.{sameBytes, part, patched}
 use Rattle.records.specs.Record.{kindOf, listed, changed, memoryFrom}
-
--- A step or a run.
 
 abbrev pub budgetOf : ℕ → ℕ → ℕ
 budgetOf kind budget = if eqb kind 0 then 1 else budget
@@ -29,20 +26,3 @@ told r size = left (wordAt r 63) (part r 39 63) (patched r (changesAt r) (change
 
 abbrev pub sameLeft : Left → Left → Bool
 sameLeft a b = eqb (a .number) (b .number) && (sameBytes (a .state) (b .state) && (sameBytes (a .memory) (b .memory) && sameBytes (a .answer) (b .answer)))
-
--- A window.
-
-abbrev pub marksTold : List ℕ → ℕ
-marksTold r = 19 + changed r
-
-abbrev pub marksEnd : List ℕ → ℕ
-marksEnd r = 19 + 2 * changed r
-
-unfoldable pub askedScreen : List ℕ → ℕ → LeftByScreen
-askedScreen r size = screenBlocks (memoryFrom r (marksEnd r) size) (wordAt r 11) (wordAt r 13) (part r 19 (marksTold r)) (replicate 4 0)
-
-unfoldable pub toldScreen : List ℕ → LeftByScreen
-toldScreen r = leftByScreen (byteAt r 15) (part r (marksTold r) (marksEnd r)) (part r 15 19)
-
-abbrev pub sameScreen : LeftByScreen → LeftByScreen → Bool
-sameScreen a b = eqb (a .number) (b .number) && (sameBytes (a .marks) (b .marks) && sameBytes (a .answer) (b .answer))

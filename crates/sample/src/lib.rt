@@ -1,15 +1,11 @@
 // The stored sample of answers: what a record asks, and whether the core answers as the record says.
 ghost use mathlib.Core.Path.{_≡_};
-ghost use Prim.Native.Nat.{_+_, _≤_};
-ghost use lib.ListN.{length, drop};
-ghost use Rattle.sample.specs.Replay.{agrees, frontSize};
+ghost use Rattle.sample.specs.Replay.{agrees};
 use crate::runs::run_agrees;
-use crate::windows::window_agrees;
-use fields::bytes::word_at;
 use records::layout::memory_length;
+use windows::window_agrees;
 
 pub mod runs;
-pub mod windows;
 
 const MOST_MEMORY: usize = 131072;
 
@@ -32,20 +28,4 @@ pub fn agrees(item: &[u8], mem: &mut [u8; 131072], other: &mut [u8; 131072]) -> 
         return window_agrees(item, mem, other);
     }
     false
-}
-
-// The length of the record that stands at an offset of a sample; 0 if no whole record stands there.
-pub fn front_size(file: &[u8], at: usize) -> usize
-    requires { ⌜ at ≤ length (now file) ⌝ }
-    ensures { λ r. ⌜ (r ≡ frontSize (drop at (now (file .entry)))) × (at + r ≤ length (now (file .entry))) ⌝ }
-{
-    let left = file.len() - at;
-    if left < 2 {
-        return 0;
-    }
-    let n = word_at(file, at) as usize;
-    if n <= left {
-        return n;
-    }
-    0
 }

@@ -6,9 +6,8 @@ ghost use Rattle.calls.specs.Left.{left, runBlocks};
 ghost use Rattle.records.specs.Record.{memoryLength, changed};
 ghost use Rattle.sample.specs.Told.{budgetOf, changesAt, asked, told, sameLeft};
 ghost use Rattle.sample.specs.Replay.{agreesRun};
+use calls::run_blocks;
 use fields::bytes::word_at;
-use library::phk_run;
-use library::phk_step;
 use records::layout::changed;
 use records::layout::lay;
 use records::layout::listed;
@@ -21,9 +20,9 @@ fn ask(kind: u8, state: &mut [u8], mem: &mut [u8], budget: u16, answer: &mut [u8
     ensures { λ r. ⌜ left r (now (state .exit)) (now (mem .exit)) (now (answer .exit)) ≡ runBlocks (budgetOf kind budget) (now (state .entry)) (now (mem .entry)) (now (answer .entry)) ⌝ }
 {
     if kind == 0 {
-        return phk_step(state, mem, answer);
+        return run_blocks(state, mem, 1, answer);
     }
-    phk_run(state, mem, budget, answer)
+    run_blocks(state, mem, budget, answer)
 }
 
 // On memory as long as the two slices are.

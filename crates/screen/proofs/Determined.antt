@@ -4,7 +4,7 @@ use borrow.Fn.Kinds.{Dens, endedOf}
 use contract.Lifetimes.{Lfts}
 use denote.Ref.{now}
 use denote.Triple.Clauses.{AtExit}
-use Rattle.sm83.specs.declared.outcome.Verdict.{Verdict}
+use Rattle.outcome.specs.declared.Verdict.{Verdict}
 use Rattle.screen.proofs.screen.screen.Kinds.{ps, r}
 use Rattle.screen.proofs.screen.screen.Reads.{Post}
 

@@ -3,10 +3,10 @@ ghost use mathlib.Core.Path.{_≡_};
 ghost use lib.ListN.{length};
 ghost use Rattle.routine.specs.Screen.{verdict, screen};
 ghost use Rattle.walks.specs.Parts.{Inside, settled, Judged};
+use outcome::Refusal;
+use outcome::Verdict;
 use shapes::window::clear;
 use sm83::addr::Addr;
-use sm83::outcome::Refusal;
-use sm83::outcome::Verdict;
 use walks::jumps::strays;
 use walks::walk::walk;
 

@@ -3,4 +3,3 @@ pub mod Basics
 pub mod Flags
 pub mod State
 pub mod PowerOn
-pub mod Numbers

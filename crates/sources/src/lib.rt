@@ -13,7 +13,7 @@ use accesses::answers::Val16;
 use accesses::answers::with_registers;
 use accesses::fetch::fetch_next_pc;
 use accesses::fetch::fetch16;
-use alu::words::sign_extended;
+use alu16::sign_extended;
 use instruction::operand::OperandType;
 use memory::Port;
 use sm83::addr::Addr;

@@ -6,8 +6,8 @@ use Prim.Native.Nat.{ℕ}
 use lib.ListN.{set}
 use Rattle.sm83.specs.declared.state.Cpu.{Cpu}
 use Rattle.sm83.specs.declared.state.HaltMode.the-variants.{NotHalting}
-use Rattle.sm83.specs.declared.outcome.Outcome.{Outcome}
-use Rattle.sm83.specs.declared.outcome.Outcome.the-variants.{Halting, Stopped, RunningHDMA}
+use Rattle.outcome.specs.declared.Outcome.{Outcome}
+use Rattle.outcome.specs.declared.Outcome.the-variants.{Halting, Stopped, RunningHDMA}
 use Rattle.sm83.specs.Basics.{if_then_else_, back, highByte, lowByte}
 use Rattle.definition.specs.Bus.{Ask, isInterrupt, pending, taken}
 use Rattle.sm83.specs.State.{pc, sp, setPC, setSP, setIme, setHalt}

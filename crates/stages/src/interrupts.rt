@@ -10,8 +10,8 @@ use memory::Port;
 use memory::interrupts::peek_next_interrupt;
 use memory::interrupts::vector;
 use memory::interrupts::write_and_take;
+use outcome::Outcome;
 use sm83::addr::Addr;
-use sm83::outcome::Outcome;
 use sm83::state::Cpu;
 
 pub struct Executed {

@@ -1,3 +1,2 @@
 -- What is proved of text.
 pub mod Written
-pub mod Decimal

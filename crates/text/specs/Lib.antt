@@ -1,3 +1,2 @@
 -- What the contracts of `text` cite.
 pub mod Page
-pub mod Digits

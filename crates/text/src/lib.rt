@@ -1,3 +1,2 @@
 // Text on lent slices: bytes and numbers written one after the other.
-pub mod digits;
 pub mod page;

@@ -1,9 +1,9 @@
 // The image is read, and memory is written to a new file that is renamed into place.
 use crate::mistakes;
 use crate::page::within;
-use command::line::AT;
-use command::line::IMAGE;
-use command::line::Line;
+use line::AT;
+use line::IMAGE;
+use line::Line;
 use text::page::put;
 
 // A slot's number; the slot holds one more.

@@ -1,7 +1,7 @@
 // What `--help` and `version` print: a page each.
-use command::line::RUN;
-use command::line::SCREEN;
-use command::line::STEP;
+use line::RUN;
+use line::SCREEN;
+use line::STEP;
 
 fn general() {
     io::write_all(

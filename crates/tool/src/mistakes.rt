@@ -1,7 +1,7 @@
 // What the tool says of files that it cannot read or write and of a bad command line: each sentence once, as in `sentences`.
 use crate::page::fail;
 use crate::page::print;
-use command::line::Line;
+use line::Line;
 use lines::line_of;
 
 pub fn unreadable(path: &[u8]) {

@@ -4,16 +4,16 @@ use crate::page::within;
 use crate::said;
 use crate::said::Env;
 use crate::sentences;
-use command::line::FIRST;
-use command::line::LAST;
-use command::line::Line;
-use command::line::MAP;
-use command::line::MARKS;
+use line::FIRST;
+use line::LAST;
+use line::Line;
+use line::MAP;
+use line::MARKS;
+use outcome::Verdict;
 use picture::counts::count;
 use picture::kinds::draw;
 use screen::screen::screen;
 use sm83::addr::Addr;
-use sm83::outcome::Verdict;
 
 pub fn byte(mem: &[u8], a: u16) -> u8 {
     reading::byte::byte(mem, Addr(a))

@@ -10,7 +10,7 @@ use Rattle.sm83.specs.Basics.{if_then_else_}
 use Rattle.definition.specs.Bus.{Access, Ran, byteAt, mcycles}
 use Rattle.definition.specs.Step.{Ended, stepOn}
 use Rattle.definition.specs.Run.{RunAnswer}
-use Rattle.sm83.specs.Numbers.{outcomeNumber}
+use Rattle.outcome.specs.Numbers.{outcomeNumber}
 use Rattle.vectors.specs.Sparse.{Sparse, look, shown, spreadFrom, spread}
 use Rattle.vectors.specs.Vector.{Vector, cpuIn, memoryBefore, memoryAfter, stepOf, places, sameAt, sameBytes, same, found, wanted, agrees, allAgree, ofCpu, shownBy, ofAccesses}
 use Rattle.vectors.specs.RunVector.{RunVector, runBefore, runAfter, runOf, runFound, runWanted, runAgrees, allRunsAgree}

@@ -3,10 +3,10 @@ use mathlib.Core.Bool.{Bool, true, false, _&&_}
 use mathlib.Core.List.{List, [], _∷_, _++_}
 use Prim.Native.Nat.{ℕ, _/_}
 use lib.Dec.{eqb}
-use Rattle.sm83.specs.declared.outcome.LastOutcome.{LastOutcome}
-use Rattle.sm83.specs.declared.outcome.LastOutcome.the-variants.{NothingRun, Last}
+use Rattle.outcome.specs.declared.LastOutcome.{LastOutcome}
+use Rattle.outcome.specs.declared.LastOutcome.the-variants.{NothingRun, Last}
 use Rattle.sm83.specs.Basics.{if_then_else_}
-use Rattle.sm83.specs.Numbers.{outcomeNumber}
+use Rattle.outcome.specs.Numbers.{outcomeNumber}
 use Rattle.definition.specs.Run.{RunAnswer, repeated, runFor}
 use Rattle.vectors.specs.Sparse.{Sparse, sparse}
 use Rattle.vectors.specs.Vector.{byteIn, cpuIn, memoryIn, ofCpu, ofRegisters, shownBy, same, sameBytes, comparing}

@@ -8,14 +8,14 @@ use Rattle.sm83.specs.declared.registers.CpuRegisters.{CpuRegisters}
 use Rattle.sm83.specs.declared.state.Cpu.{Cpu}
 use Rattle.sm83.specs.declared.state.HaltMode.{HaltMode}
 use Rattle.sm83.specs.declared.state.HaltMode.the-variants.{NotHalting, HaltRunInterrupt, HaltNoRunInterrupt, HaltBug}
-use Rattle.sm83.specs.declared.outcome.Outcome.{Outcome}
-use Rattle.sm83.specs.declared.outcome.Outcome.the-variants.{Normal, InfiniteLoop, Halting, RunningHDMA, Stopped, RunningInterrupt, Breakpoint, Refused}
+use Rattle.outcome.specs.declared.Outcome.{Outcome}
+use Rattle.outcome.specs.declared.Outcome.the-variants.{Normal, InfiniteLoop, Halting, RunningHDMA, Stopped, RunningInterrupt, Breakpoint, Refused}
 use Rattle.sm83.specs.Basics.{if_then_else_, bit}
 use Rattle.definition.specs.Bus.{Access, Read, Write, Idle, WriteAndTake, Ran, runOn, mcycles}
 use Rattle.sm83.specs.State.{registersOf}
 use Rattle.opcodes.specs.Arithmetic.{daa}
 use Rattle.opcodes.specs.Instruction.{decode, decodeCB}
-use Rattle.sm83.specs.Numbers.{outcomeNumber}
+use Rattle.outcome.specs.Numbers.{outcomeNumber}
 use Rattle.definition.specs.Step.{Ended, stepOn, stepping}
 use Rattle.vectors.specs.Sparse.{Placed, placed, Sparse, look, shown, withoutWaiting, sparse}
 

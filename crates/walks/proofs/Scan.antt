@@ -8,10 +8,10 @@ use lib.Dec.{eqb}
 use lib.ListN.{length, getD}
 use borrow.Author.Tests.{le-leb, eq-eqb, ne-eqb}
 use Rattle.sm83.specs.declared.addr.Addr.{Addr}
-use Rattle.sm83.specs.declared.outcome.Refusal.{Refusal}
-use Rattle.sm83.specs.declared.outcome.Refusal.the-variants.{JumpUnmarked}
-use Rattle.sm83.specs.declared.outcome.Verdict.{Verdict}
-use Rattle.sm83.specs.declared.outcome.Verdict.the-variants.{Passes, RefusedAt}
+use Rattle.outcome.specs.declared.Refusal.{Refusal}
+use Rattle.outcome.specs.declared.Refusal.the-variants.{JumpUnmarked}
+use Rattle.outcome.specs.declared.Verdict.{Verdict}
+use Rattle.outcome.specs.declared.Verdict.the-variants.{Passes, RefusedAt}
 use Rattle.sm83.specs.Basics.{if_then_else_}
 use Rattle.sm83.specs.State.{addr}
 use Rattle.routine.specs.Screen.{refusedAt, isMarked, landsWell, scan}

@@ -6,12 +6,12 @@ ghost use Rattle.sm83.specs.Basics.{word, signed, offset, next};
 ghost use Rattle.definition.specs.Bus.{byteAt};
 ghost use Rattle.routine.specs.Screen.{isMarked, landsWell};
 ghost use Rattle.walks.specs.Parts.{Inside, straysFrom};
+use outcome::Refusal;
+use outcome::Verdict;
 use shapes::class::Class;
 use shapes::window::address;
 use shapes::window::shape_at;
 use sm83::addr::Addr;
-use sm83::outcome::Refusal;
-use sm83::outcome::Verdict;
 use sm83::registers::pair;
 
 // A signed byte as a word.

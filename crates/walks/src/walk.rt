@@ -2,11 +2,11 @@
 ghost use mathlib.Core.Path.{_≡_};
 ghost use lib.ListN.{length, replicate};
 ghost use Rattle.walks.specs.Parts.{fallsAt, Inside, Walked};
+use outcome::Refusal;
+use outcome::Verdict;
 use shapes::window::address;
 use shapes::window::shape_at;
 use sm83::addr::Addr;
-use sm83::outcome::Refusal;
-use sm83::outcome::Verdict;
 
 // 9: "the last instruction must be an unconditional JP, JR or RET"
 fn falls_through(mem: &[u8], last: Addr) -> Verdict

@@ -5,7 +5,7 @@ use Prim.Native.Nat.{ℕ, _+_, _/_, _%_}
 use lib.Dec.{eqb, ltb}
 use lib.ListN.{getD}
 use Rattle.text.specs.Page.{choose}
-use Rattle.text.specs.Digits.{hex2, hex4, decimal}
+use Rattle.digits.specs.Digits.{hex2, hex4, decimal}
 
 -- a flag's letter if its bit is set, else -
 abbrev pub flag : ℕ → ℕ → List ℕ

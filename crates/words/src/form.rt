@@ -5,9 +5,9 @@ ghost use Prim.Native.Nat.{_≤_};
 ghost use lib.ListN.{getD};
 ghost use Rattle.text.specs.Page.{page, Wrote};
 ghost use Rattle.words.specs.Form.{flag, flags, meant, takes, filled};
-use text::digits::put_decimal;
-use text::digits::put_hex2;
-use text::digits::put_hex4;
+use digits::put_decimal;
+use digits::put_hex2;
+use digits::put_hex4;
 use text::page::put;
 use text::page::put_byte;
 

@@ -5,10 +5,10 @@ use Rattle.sample.proofs.runs.ask.Statement.{statement}
 use Rattle.sample.proofs.runs.ask.Tie as tie
 
 a-step : tie.Need-returns
-a-step c = simp (eq-eqb _ _ (c .before .before .before .before .before .before .before .before .before .before .if1 .taken)) (c .before .before .before .before .before .before .phk-step .ensures)
+a-step c = simp (eq-eqb _ _ (c .before .before .before .before .before .before .before .before .before .before .if1 .taken)) (c .before .before .before .before .before .before .run-blocks .ensures)
 
 a-run : tie.Need-returns-2
-a-run c = simp (ne-eqb _ _ (c .before .before .before .before .before .before .before .before .before .before .if1 .left)) (c .before .before .before .before .before .before .phk-run .ensures)
+a-run c = simp (ne-eqb _ _ (c .before .before .before .before .before .before .before .before .before .before .if1 .left)) (c .before .before .before .before .before .before .run-blocks2 .ensures)
 
 pub ask-spec : {M : Type 1} → statement M
 ask-spec =

@@ -3,7 +3,8 @@ use borrow.Author.Needs.{needs}
 use mathlib.Core.Path.{_≡_, refl, _∙_}
 use native.Mathlib.Omega.{arith}
 use Rattle.records.specs.Bytes.{part}
-use Rattle.sample.proofs.Compared.{copied, run-compared}
+use Rattle.records.proofs.Copied.{copied}
+use Rattle.sample.proofs.Compared.{run-compared}
 use Rattle.sample.proofs.runs.compare.Statement.{statement}
 use Rattle.sample.proofs.runs.compare.Tie as tie
 

@@ -1,2 +1,0 @@
--- What is proved of the arithmetic besides its contracts.
-pub mod Signed

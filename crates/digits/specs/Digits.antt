@@ -1,0 +1,29 @@
+-- Numbers as text.
+use mathlib.Core.Bool.{Bool, true, false}
+use mathlib.Core.List.{List, [], _∷_, _++_}
+use Prim.Native.Nat.{ℕ, zero, suc, _+_, _/_, _%_, _^_}
+use lib.Dec.{eqb, ltb}
+use Rattle.text.specs.Page.{choose}
+
+-- the ASCII code of a digit below 16: `0` to `9`, then `A` to `F`
+abbrev pub glyph : ℕ → ℕ
+glyph d = choose (ltb d 10) (48 + d) (55 + d)
+
+abbrev pub hex2 : ℕ → List ℕ
+hex2 b = glyph (b / 16) ∷ glyph (b % 16) ∷ []
+
+abbrev pub hex4 : ℕ → List ℕ
+hex4 w = hex2 (w / 256) ++ hex2 (w % 256)
+
+-- the decimal digit at a power of ten, unless it is a zero in front
+unfoldable pub digitAt : ℕ → ℕ → List ℕ
+digitAt n scale = choose (eqb scale 1) (glyph (n % 10) ∷ []) (choose (ltb n scale) [] (glyph (n / scale % 10) ∷ []))
+
+-- the last k digits
+unfoldable pub digitsBelow : ℕ → ℕ → List ℕ
+digitsBelow zero n = []
+digitsBelow (suc k) n = digitAt n (10 ^ k) ++ digitsBelow k n
+
+-- a number below 2^64 has at most twenty
+abbrev pub decimal : ℕ → List ℕ
+decimal n = digitsBelow 20 n

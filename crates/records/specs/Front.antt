@@ -1,0 +1,11 @@
+-- The record at the front of a sample.
+use mathlib.Core.List.{List}
+use Prim.Native.Nat.{ℕ}
+use lib.Dec.{leb}
+use lib.ListN.{length}
+use Rattle.sm83.specs.Basics.{if_then_else_}
+use Rattle.fields.specs.Bytes.{wordAt}
+
+-- the length of the record at the front, as its first two bytes say; 0 if no whole record stands there
+abbrev pub frontSize : List ℕ → ℕ
+frontSize s = if leb 2 (length s) then (if leb (wordAt s 0) (length s) then wordAt s 0 else 0) else 0
