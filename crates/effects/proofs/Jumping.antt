@@ -15,12 +15,12 @@ use Rattle.definition.specs.Execution.{Does, _>>=_, _>>_, nothing, change, goTo
 use Rattle.instruction.specs.declared.condition.Condition.{Condition}
 use Rattle.memory.specs.declared.Port.{Port}
 use Rattle.memory.specs.World.{world, leads, counted}
-use Rattle.effects.specs.declared.answers.Worked.{Worked}
+use Rattle.results.specs.declared.answers.Worked.{Worked}
 use Rattle.accesses.specs.Leads.{Leads}
 use Rattle.mirror.specs.Mirror.{Made, made, checkCond, isUnconditional, jumpMade, onlyIfMade, callMade, retMade, retIfMade, haltMade}
-use Rattle.effects.specs.Worked.{madeBy, worked}
+use Rattle.results.specs.Worked.{madeBy, worked}
 use Rattle.accesses.proofs.Leading.{after, along}
-use Rattle.effects.proofs.Ending.{ending}
+use Rattle.results.proofs.Ending.{ending}
 use Rattle.accesses.proofs.Parts.{waited}
 
 module _ (s : Cpu) (port : Port) (m : List ℕ) (c : Condition) (P : Does Ended Made) (go : Bool) where

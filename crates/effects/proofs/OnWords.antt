@@ -11,12 +11,12 @@ use Rattle.alu16.specs.declared.ComputedWord.{ComputedWord}
 use Rattle.alu16.specs.Words.{wordWith}
 use Rattle.memory.specs.declared.Port.{Port}
 use Rattle.memory.specs.World.{leads, counted}
-use Rattle.effects.specs.declared.answers.Worked.{Worked}
+use Rattle.results.specs.declared.answers.Worked.{Worked}
 use Rattle.accesses.specs.Leads.{Leads}
 use Rattle.mirror.specs.Mirror.{made, loadSPMade, loadHLMade, addSPMade, addHLMade, slowlyMade, pushMade, popMade}
-use Rattle.effects.specs.Worked.{madeBy, worked, offsetBy}
+use Rattle.results.specs.Worked.{madeBy, worked, offsetBy}
 use Rattle.accesses.proofs.Leading.{after}
-use Rattle.effects.proofs.Ending.{ending}
+use Rattle.results.proofs.Ending.{ending}
 use Rattle.accesses.proofs.Parts.{waited}
 
 module _ (s : Cpu) (port port' : Port) (m m' : List ℕ) (r : Worked) where

@@ -4,11 +4,11 @@ ghost use lib.ListN.{length};
 ghost use Rattle.sm83.specs.State.{setHalt};
 ghost use Rattle.accesses.specs.Leads.{Leads};
 ghost use Rattle.mirror.specs.Mirror.{haltMade};
-ghost use Rattle.effects.specs.Worked.{madeBy};
-use crate::answers::Worked;
-use crate::results::plain;
+ghost use Rattle.results.specs.Worked.{madeBy};
 use memory::Port;
 use memory::interrupts::peek_next_interrupt;
+use results::answers::Worked;
+use results::plain;
 use sm83::state::Cpu;
 use sm83::state::HaltMode;
 

@@ -19,13 +19,13 @@ use Rattle.instruction.specs.declared.opcode.Opcode.the-variants as op
 use Rattle.flags.specs.declared.Computed.{Computed}
 use Rattle.flags.specs.Computed.{computed}
 use Rattle.memory.specs.declared.Port.{Port}
-use Rattle.effects.specs.declared.answers.Worked.{Worked}
+use Rattle.results.specs.declared.answers.Worked.{Worked}
 use Rattle.accesses.specs.Leads.{Leads}
 use Rattle.mirror.specs.Mirror.{Made, compute, haltMade, loadSPMade, loadHLMade, addSPMade, addHLMade, slowlyMade, pushMade, popMade, jpMade, jrMade, jumpMade, callMade, callIfMade, retIfMade, retiMade}
-use Rattle.effects.specs.Worked.{madeBy, worked}
+use Rattle.results.specs.Worked.{madeBy, worked}
 use Rattle.mirror.specs.Runnable.{executable}
 use Rattle.accesses.proofs.Leading.{along}
-use Rattle.effects.proofs.Ending.{ending}
+use Rattle.results.proofs.Ending.{ending}
 
 -- the opcodes of the definition's operations
 abbrev pub aluCode : Alu → Opcode

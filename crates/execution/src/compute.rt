@@ -1,11 +1,11 @@
 // What an instruction does between its operands: the match of `exec_instruction`.
 ghost use mathlib.Core.Path.{_≡_};
-ghost use lib.Dec.{T};
+ghost use lib.Dec.{T, leb};
 ghost use lib.ListN.{length};
 ghost use Rattle.accesses.specs.Leads.{Leads};
 ghost use Rattle.mirror.specs.Mirror.{compute};
-ghost use Rattle.effects.specs.Worked.{madeBy};
-ghost use Rattle.mirror.specs.Runnable.{executable};
+ghost use Rattle.results.specs.Worked.{madeBy};
+ghost use Rattle.mirror.specs.Runnable.{executable, partOf};
 use alu::sums::adc;
 use alu::sums::add;
 use alu::sums::cp;
@@ -23,9 +23,7 @@ use bitwise::logic::or;
 use bitwise::logic::scf;
 use bitwise::logic::xor;
 use decimal::daa;
-use effects::answers::Worked;
 use effects::halt::halt;
-use effects::illegal::illegal;
 use effects::jumps::call;
 use effects::jumps::call_to;
 use effects::jumps::jp;
@@ -33,10 +31,6 @@ use effects::jumps::jr;
 use effects::jumps::jump;
 use effects::jumps::ret;
 use effects::jumps::reti;
-use effects::results::plain;
-use effects::results::with_a;
-use effects::results::with_flags;
-use effects::results::with_result;
 use effects::words::add_hl;
 use effects::words::add_sp;
 use effects::words::ld_hl_sp;
@@ -44,10 +38,18 @@ use effects::words::ld_sp_hl;
 use effects::words::pop_word;
 use effects::words::push_word;
 use effects::words::slowly;
-use flags::Computed;
 use instruction::opcode::Opcode;
 use memory::Port;
-use outcome::Outcome;
+use results::answers::Worked;
+use results::breakpoint;
+use results::di;
+use results::ei;
+use results::illegal::illegal;
+use results::plain;
+use results::stop;
+use results::with_a;
+use results::with_flags;
+use results::with_result;
 use shifts::rl;
 use shifts::rla;
 use shifts::rlc;
@@ -63,7 +65,7 @@ use shifts::swap;
 use sm83::addr::Addr;
 use sm83::state::Cpu;
 
-// For an opcode that is never executed: no call of this is ever reached.
+// For an opcode that is not executed here: no call of this is ever reached.
 fn never_executed(cpu: Cpu, port: Port) -> Worked
     requires { ⌜ ⊥ ⌝ }
     ensures { λ r. ⌜ ⊥ ⌝ }
@@ -71,32 +73,23 @@ fn never_executed(cpu: Cpu, port: Port) -> Worked
     plain(cpu, port, 0)
 }
 
+// The match in the order of the Rust, in three parts: up to OR, from JP to RRA, and what follows a prefix.
 pub fn compute(cpu: Cpu, port: Port, opcode: Opcode, src: u16, at: Addr, mem: &mut [u8]) -> Worked
     requires { ⌜ length (now mem) ≡ 65536 ⌝ }
     requires { ⌜ T (executable opcode) ⌝ }
     ensures { λ r. ⌜ Leads (compute opcode (at .0) src) cpu port (now (mem .entry)) (madeBy r) (r .cpu) (r .port) (now (mem .exit)) × (length (now (mem .exit)) ≡ 65536) ⌝ }
 {
-    let mut s = cpu;
     let regs = cpu.registers;
     let a = regs.a;
     let f = regs.f;
     let x = (src % 256) as u8;
     match opcode {
         Opcode::Nop => plain(cpu, port, 0),
-        Opcode::Stop => {
-            s.stopped = true;
-            plain(s, port, 0)
-        }
-        Opcode::Halt => halt(cpu, port, mem),
+        Opcode::Stop => stop(cpu, port),
         Opcode::Ld => plain(cpu, port, src),
         Opcode::LdSPHL => ld_sp_hl(cpu, port, mem),
         Opcode::LdHLSPSigned8 => ld_hl_sp(cpu, port, src, mem),
-        Opcode::LdBB => Worked {
-            cpu: cpu,
-            port: port,
-            value: 0,
-            outcome: Outcome::Breakpoint(regs),
-        },
+        Opcode::LdBB => breakpoint(cpu, port),
         Opcode::Push => push_word(cpu, port, src, mem),
         Opcode::Pop => pop_word(cpu, port, mem),
         Opcode::Inc => with_result(cpu, port, inc(x, f)),
@@ -113,6 +106,27 @@ pub fn compute(cpu: Cpu, port: Port, opcode: Opcode, src: u16, at: Addr, mem: &m
         Opcode::And => with_result(cpu, port, and(a, x)),
         Opcode::Xor => with_result(cpu, port, xor(a, x)),
         Opcode::Or => with_result(cpu, port, or(a, x)),
+        _ => compute_from_jp(cpu, port, opcode, src, at, mem),
+    }
+}
+
+fn compute_from_jp(
+    cpu: Cpu,
+    port: Port,
+    opcode: Opcode,
+    src: u16,
+    at: Addr,
+    mem: &mut [u8],
+) -> Worked
+    requires { ⌜ length (now mem) ≡ 65536 ⌝ }
+    requires { ⌜ T (executable opcode) ⌝ }
+    requires { ⌜ T (leb 2 (partOf opcode)) ⌝ }
+    ensures { λ r. ⌜ Leads (compute opcode (at .0) src) cpu port (now (mem .entry)) (madeBy r) (r .cpu) (r .port) (now (mem .exit)) × (length (now (mem .exit)) ≡ 65536) ⌝ }
+{
+    let regs = cpu.registers;
+    let a = regs.a;
+    let f = regs.f;
+    match opcode {
         Opcode::Jp(cond) => jp(cpu, port, cond, src, at, mem),
         Opcode::JpHL => jump(cpu, port, src, at, true),
         Opcode::Jr(cond) => jr(cpu, port, cond, src, at, mem),
@@ -120,14 +134,8 @@ pub fn compute(cpu: Cpu, port: Port, opcode: Opcode, src: u16, at: Addr, mem: &m
         Opcode::Ret(cond) => ret(cpu, port, cond, mem),
         Opcode::Reti => reti(cpu, port, mem),
         Opcode::Rst(vector) => call_to(cpu, port, vector as u16, mem),
-        Opcode::Di => {
-            s.ime = false;
-            plain(s, port, 0)
-        }
-        Opcode::Ei => {
-            s.latch = true;
-            plain(s, port, 0)
-        }
+        Opcode::Di => di(cpu, port),
+        Opcode::Ei => ei(cpu, port),
         Opcode::Ccf => with_a(cpu, port, ccf(a, f)),
         Opcode::Scf => with_a(cpu, port, scf(a, f)),
         Opcode::Daa => with_a(cpu, port, daa(a, f)),
@@ -136,6 +144,28 @@ pub fn compute(cpu: Cpu, port: Port, opcode: Opcode, src: u16, at: Addr, mem: &m
         Opcode::Rla => with_a(cpu, port, rla(a, f)),
         Opcode::Rrca => with_a(cpu, port, rrca(a)),
         Opcode::Rra => with_a(cpu, port, rra(a, f)),
+        _ => compute_from_rlc(cpu, port, opcode, src, at, mem),
+    }
+}
+
+// PREFIX is never executed: the fetch takes the opcode behind it. What came before does not come here.
+fn compute_from_rlc(
+    cpu: Cpu,
+    port: Port,
+    opcode: Opcode,
+    src: u16,
+    at: Addr,
+    mem: &mut [u8],
+) -> Worked
+    requires { ⌜ length (now mem) ≡ 65536 ⌝ }
+    requires { ⌜ T (executable opcode) ⌝ }
+    requires { ⌜ T (leb 3 (partOf opcode)) ⌝ }
+    ensures { λ r. ⌜ Leads (compute opcode (at .0) src) cpu port (now (mem .entry)) (madeBy r) (r .cpu) (r .port) (now (mem .exit)) × (length (now (mem .exit)) ≡ 65536) ⌝ }
+{
+    let regs = cpu.registers;
+    let f = regs.f;
+    let x = (src % 256) as u8;
+    match opcode {
         Opcode::Prefix => never_executed(cpu, port),
         Opcode::Rlc => with_result(cpu, port, rlc(x)),
         Opcode::Rrc => with_result(cpu, port, rrc(x)),
@@ -149,5 +179,7 @@ pub fn compute(cpu: Cpu, port: Port, opcode: Opcode, src: u16, at: Addr, mem: &m
         Opcode::Res(n) => plain(cpu, port, res(n, x) as u16),
         Opcode::Set(n) => plain(cpu, port, set(n, x) as u16),
         Opcode::Illegal => illegal(cpu, port, at),
+        Opcode::Halt => halt(cpu, port, mem),
+        _ => never_executed(cpu, port),
     }
 }

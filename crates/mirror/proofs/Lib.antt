@@ -5,3 +5,4 @@ pub mod BridgeWork
 pub mod BridgeJump
 pub mod BridgePrefixed
 pub mod Bridge
+pub mod Every

@@ -1,7 +1,7 @@
 -- Shows refusal 3: the state with PC back, and nothing else.
 use borrow.Author.Needs.{needs}
-use Rattle.effects.proofs.illegal.illegal.Statement.{statement}
-use Rattle.effects.proofs.illegal.illegal.Tie as tie
+use Rattle.results.proofs.illegal.illegal.Statement.{statement}
+use Rattle.results.proofs.illegal.illegal.Tie as tie
 
 returns : tie.Need-returns
 returns c = simp (c .with-registers .ensures)

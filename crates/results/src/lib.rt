@@ -1,14 +1,18 @@
 // What comes of an operation: a value to be written, with flags or with none, or A and F at once.
 ghost use mathlib.Core.Path.{_≡_};
-ghost use Rattle.outcome.specs.declared.Outcome.the-variants.{Normal};
-ghost use Rattle.sm83.specs.State.{onRegisters, writeA, writeF};
-ghost use Rattle.effects.specs.Worked.{worked};
+ghost use mathlib.Core.Bool.{true, false};
+ghost use Rattle.outcome.specs.declared.Outcome.the-variants.{Normal, Breakpoint};
+ghost use Rattle.sm83.specs.State.{onRegisters, writeA, writeF, setStopped, setIme, setLatch};
+ghost use Rattle.results.specs.Worked.{worked};
 use crate::answers::Worked;
 use accesses::answers::with_registers;
 use flags::Computed;
 use memory::Port;
 use outcome::Outcome;
 use sm83::state::Cpu;
+
+pub mod answers;
+pub mod illegal;
 
 pub fn plain(cpu: Cpu, port: Port, value: u16) -> Worked
     ensures { λ r. ⌜ r ≡ worked cpu port value Normal ⌝ }
@@ -44,4 +48,43 @@ pub fn with_a(cpu: Cpu, port: Port, x: Computed) -> Worked
     regs.f = x.flags;
     let s = with_registers(cpu, regs);
     plain(s, port, 0)
+}
+
+// STOP: the bus is stopped, and every step after it answers so.
+pub fn stop(cpu: Cpu, port: Port) -> Worked
+    ensures { λ r. ⌜ r ≡ worked (setStopped true cpu) port 0 Normal ⌝ }
+{
+    let mut s = cpu;
+    s.stopped = true;
+    plain(s, port, 0)
+}
+
+pub fn di(cpu: Cpu, port: Port) -> Worked
+    ensures { λ r. ⌜ r ≡ worked (setIme false cpu) port 0 Normal ⌝ }
+{
+    let mut s = cpu;
+    s.ime = false;
+    plain(s, port, 0)
+}
+
+// The latch opens IME before the next instruction.
+pub fn ei(cpu: Cpu, port: Port) -> Worked
+    ensures { λ r. ⌜ r ≡ worked (setLatch true cpu) port 0 Normal ⌝ }
+{
+    let mut s = cpu;
+    s.latch = true;
+    plain(s, port, 0)
+}
+
+// LD B,B: a breakpoint, with the registers as they are.
+pub fn breakpoint(cpu: Cpu, port: Port) -> Worked
+    ensures { λ r. ⌜ r ≡ worked cpu port 0 (Breakpoint (cpu .registers)) ⌝ }
+{
+    let regs = cpu.registers;
+    Worked {
+        cpu: cpu,
+        port: port,
+        value: 0,
+        outcome: Outcome::Breakpoint(regs),
+    }
 }

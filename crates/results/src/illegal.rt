@@ -3,7 +3,7 @@ ghost use mathlib.Core.Path.{_≡_};
 ghost use Rattle.outcome.specs.declared.Outcome.the-variants.{Refused};
 ghost use Rattle.outcome.specs.declared.Refusal.the-variants.{IllegalOpcode};
 ghost use Rattle.sm83.specs.State.{setPC};
-ghost use Rattle.effects.specs.Worked.{worked};
+ghost use Rattle.results.specs.Worked.{worked};
 use crate::answers::Worked;
 use accesses::answers::with_registers;
 use memory::Port;

@@ -8,7 +8,7 @@ use Rattle.sm83.specs.State.{sp, setF}
 use Rattle.opcodes.specs.Arithmetic.{offsetFlags}
 use Rattle.memory.specs.declared.Port.{Port}
 use Rattle.mirror.specs.Mirror.{Made}
-use Rattle.effects.specs.declared.answers.Worked.{Worked}
+use Rattle.results.specs.declared.answers.Worked.{Worked}
 
 abbrev pub madeBy : Worked → Made
 madeBy r = record { value = r .value; outcome = r .outcome }

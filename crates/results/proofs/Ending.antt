@@ -8,8 +8,8 @@ use Rattle.definition.specs.Execution.{Does}
 use Rattle.memory.specs.declared.Port.{Port}
 use Rattle.accesses.specs.Leads.{Leads}
 use Rattle.mirror.specs.Mirror.{Made}
-use Rattle.effects.specs.declared.answers.Worked.{Worked}
-use Rattle.effects.specs.Worked.{madeBy}
+use Rattle.results.specs.declared.answers.Worked.{Worked}
+use Rattle.results.specs.Worked.{madeBy}
 
 pub ending : (s : Cpu) (port : Port) (m m' : List ℕ) (r w : Worked) (P : Does Ended Made) → r ≡ w → Leads P s port m (madeBy w) (w .cpu) (w .port) m' → Leads P s port m (madeBy r) (r .cpu) (r .port) m'
 ending s port m m' r w P e l = subst (λ z. Leads P s port m (madeBy z) (z .cpu) (z .port) m') (sym e) l
