@@ -26,10 +26,6 @@ module _ (s t : Cpu) (port port' : Port) (m m' : List ℕ) (v : ℕ) (ty : Opera
   stored-at kind a b e same e' l = written kind e (λ k. same k ∙ stored s t port port' m m' (lowByte v) a b e' l k)
 
 module _ (s : Cpu) (port : Port) (m : List ℕ) (v : ℕ) (ty : OperandType) where
-  pub nowhere : ty ≡ ot.Implied → Leads (writeOperand ty v) s port m tt s port m
-  unfolding writeOperand
-  nowhere e = written s s port port m m v ty ot.Implied e (λ k. refl)
-
   -- into registers, which are put back into the state
   module _ (t : Cpu) (regs : CpuRegisters) where
     into : (kind : OperandType) (g : CpuRegisters → CpuRegisters) → Leads (writeOperand kind v) s port m tt (onRegisters g s) port m → ty ≡ kind → regs ≡ g (s .registers) → t ≡ onRegisters (λ _. regs) s → Leads (writeOperand ty v) s port m tt t port m
@@ -82,3 +78,7 @@ module _ (s : Cpu) (port : Port) (m : List ℕ) (v : ℕ) (ty : OperandType) whe
     pub into-sp : ty ≡ ot.RegSP → regs ≡ writeSP v (s .registers) → t ≡ onRegisters (λ _. regs) s → Leads (writeOperand ty v) s port m tt t port m
     unfolding writeOperand
     into-sp = into ot.RegSP (writeSP v) (λ k. refl)
+
+    pub nowhere : ty ≡ ot.Implied → regs ≡ s .registers → t ≡ onRegisters (λ _. regs) s → Leads (writeOperand ty v) s port m tt t port m
+    unfolding writeOperand
+    nowhere = into ot.Implied (λ r. r) (λ k. refl)

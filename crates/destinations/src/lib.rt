@@ -92,79 +92,34 @@ pub fn write_operand(cpu: Cpu, port: Port, ty: OperandType, value: u16, mem: &mu
 {
     let mut regs = cpu.registers;
     let low = (value % 256) as u8;
+    let word = Addr(value);
     match ty {
-        OperandType::RegA => {
-            regs.a = low;
-            let s = with_registers(cpu, regs);
-            Both { cpu: s, port: port }
-        }
-        OperandType::RegB => {
-            regs.b = low;
-            let s = with_registers(cpu, regs);
-            Both { cpu: s, port: port }
-        }
-        OperandType::RegC => {
-            regs.c = low;
-            let s = with_registers(cpu, regs);
-            Both { cpu: s, port: port }
-        }
-        OperandType::RegD => {
-            regs.d = low;
-            let s = with_registers(cpu, regs);
-            Both { cpu: s, port: port }
-        }
-        OperandType::RegE => {
-            regs.e = low;
-            let s = with_registers(cpu, regs);
-            Both { cpu: s, port: port }
-        }
-        OperandType::RegH => {
-            regs.h = low;
-            let s = with_registers(cpu, regs);
-            Both { cpu: s, port: port }
-        }
-        OperandType::RegL => {
-            regs.l = low;
-            let s = with_registers(cpu, regs);
-            Both { cpu: s, port: port }
-        }
-        OperandType::AddrHL => store(cpu, port, Addr(regs.reg_hl_read()), low, mem),
-        OperandType::AddrHLDec => write_hl_dec(cpu, port, value, mem),
-        OperandType::AddrHLInc => write_hl_inc(cpu, port, value, mem),
-        OperandType::AddrBC => store(cpu, port, Addr(regs.reg_bc_read()), low, mem),
-        OperandType::AddrDE => store(cpu, port, Addr(regs.reg_de_read()), low, mem),
-        OperandType::RegAF => {
-            let s = with_registers(cpu, regs.reg_af_write(value));
-            Both { cpu: s, port: port }
-        }
-        OperandType::RegBC => {
-            let s = with_registers(cpu, regs.reg_bc_write(value));
-            Both { cpu: s, port: port }
-        }
-        OperandType::RegDE => {
-            let s = with_registers(cpu, regs.reg_de_write(value));
-            Both { cpu: s, port: port }
-        }
-        OperandType::RegHL => {
-            let s = with_registers(cpu, regs.reg_hl_write(value));
-            Both { cpu: s, port: port }
-        }
-        OperandType::RegSP => {
-            let sp = Addr(value);
-            regs.sp = sp;
-            let s = with_registers(cpu, regs);
-            Both { cpu: s, port: port }
-        }
-        OperandType::Imm8 => never_written(cpu, port),
-        OperandType::Imm8Signed => never_written(cpu, port),
-        OperandType::Imm16 => never_written(cpu, port),
-        OperandType::HighAddr8 => write_high(cpu, port, value, mem),
-        OperandType::HighAddrC => store(cpu, port, high(regs.c), low, mem),
-        OperandType::Addr16 => write_at16(cpu, port, value, mem),
-        OperandType::Addr16Val16 => write_word_at16(cpu, port, value, mem),
-        OperandType::Implied => Both {
-            cpu: cpu,
-            port: port,
-        },
+        OperandType::RegA => regs.a = low,
+        OperandType::RegB => regs.b = low,
+        OperandType::RegC => regs.c = low,
+        OperandType::RegD => regs.d = low,
+        OperandType::RegE => regs.e = low,
+        OperandType::RegH => regs.h = low,
+        OperandType::RegL => regs.l = low,
+        OperandType::AddrHL => return store(cpu, port, Addr(regs.reg_hl_read()), low, mem),
+        OperandType::AddrHLDec => return write_hl_dec(cpu, port, value, mem),
+        OperandType::AddrHLInc => return write_hl_inc(cpu, port, value, mem),
+        OperandType::AddrBC => return store(cpu, port, Addr(regs.reg_bc_read()), low, mem),
+        OperandType::AddrDE => return store(cpu, port, Addr(regs.reg_de_read()), low, mem),
+        OperandType::RegAF => regs = regs.reg_af_write(value),
+        OperandType::RegBC => regs = regs.reg_bc_write(value),
+        OperandType::RegDE => regs = regs.reg_de_write(value),
+        OperandType::RegHL => regs = regs.reg_hl_write(value),
+        OperandType::RegSP => regs.sp = word,
+        OperandType::Imm8 => return never_written(cpu, port),
+        OperandType::Imm8Signed => return never_written(cpu, port),
+        OperandType::Imm16 => return never_written(cpu, port),
+        OperandType::HighAddr8 => return write_high(cpu, port, value, mem),
+        OperandType::HighAddrC => return store(cpu, port, high(regs.c), low, mem),
+        OperandType::Addr16 => return write_at16(cpu, port, value, mem),
+        OperandType::Addr16Val16 => return write_word_at16(cpu, port, value, mem),
+        OperandType::Implied => {}
     }
+    let s = with_registers(cpu, regs);
+    Both { cpu: s, port: port }
 }
