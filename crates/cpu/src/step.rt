@@ -1,5 +1,6 @@
 // One step: `next_instruction`, stage by stage in the order of the Rust. The two tables are lent.
 ghost use mathlib.Core.Path.{_≡_};
+ghost use mathlib.Core.Bool.{false};
 ghost use lib.ListN.{length};
 ghost use Rattle.definition.specs.Step.{instruction, awake, step};
 ghost use Rattle.instruction.specs.Entry.{Plain, Prefixed};
@@ -57,6 +58,35 @@ fn awake(
     }
 }
 
+// 3 to 7: neither stopped nor in a transfer.
+fn running(
+    cpu: Cpu,
+    port: Port,
+    plain: &[u32; 256],
+    prefixed: &[u32; 256],
+    mem: &mut [u8],
+) -> Executed
+    requires { ⌜ length (now mem) ≡ 65536 ⌝ }
+    requires { ⌜ Plain (now plain) ⌝ }
+    requires { ⌜ Prefixed (now prefixed) ⌝ }
+    requires { ⌜ (cpu .stopped ≡ false) × (cpu .hdma ≡ false) ⌝ }
+    ensures { λ r. ⌜ Leads step cpu port (now (mem .entry)) (r .outcome) (r .cpu) (r .port) (now (mem .exit)) × (length (now (mem .exit)) ≡ 65536) ⌝ }
+{
+    let w = wake(cpu, port, mem);
+    let s = w.cpu;
+    let p = w.port;
+    let halting = w.halting;
+    if halting {
+        Executed {
+            cpu: s,
+            port: p,
+            outcome: Outcome::Halting,
+        }
+    } else {
+        awake(s, p, plain, prefixed, mem)
+    }
+}
+
 // 1 to 7.
 pub fn next_instruction(
     cpu: Cpu,
@@ -88,17 +118,5 @@ pub fn next_instruction(
             outcome: Outcome::RunningHDMA,
         };
     }
-    let w = wake(cpu, port, mem);
-    let s = w.cpu;
-    let p = w.port;
-    let halting = w.halting;
-    if halting {
-        Executed {
-            cpu: s,
-            port: p,
-            outcome: Outcome::Halting,
-        }
-    } else {
-        awake(s, p, plain, prefixed, mem)
-    }
+    running(cpu, port, plain, prefixed, mem)
 }

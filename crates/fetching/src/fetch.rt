@@ -68,27 +68,24 @@ pub fn fetch_entry(
     let x = fetch_next_pc(c, port, mem);
     let d = x.cpu;
     let p = x.port;
-    let b = x.value;
     let s = unbug(d, at);
-    if b == 0xcb {
+    if x.value == 0xcb {
         let y = fetch_next_pc(s, p, mem);
         let e = y.cpu;
         let q = y.port;
-        let second = y.value;
-        Fetched {
+        return Fetched {
             cpu: e,
             port: q,
-            entry: prefixed[second as usize],
-            byte: second,
+            entry: prefixed[y.value as usize],
+            byte: y.value,
             at: at,
-        }
-    } else {
-        Fetched {
-            cpu: s,
-            port: p,
-            entry: plain[b as usize],
-            byte: b,
-            at: at,
-        }
+        };
+    }
+    Fetched {
+        cpu: s,
+        port: p,
+        entry: plain[x.value as usize],
+        byte: x.value,
+        at: at,
     }
 }

@@ -1,5 +1,6 @@
 // Point 3: a halt that goes on, one that ends, or none.
 ghost use mathlib.Core.Path.{_≡_};
+ghost use mathlib.Core.Bool.{true};
 ghost use lib.ListN.{length};
 ghost use Rattle.sm83.specs.State.{setHalt};
 ghost use Rattle.sm83.specs.declared.state.HaltMode.the-variants.{NotHalting};
@@ -53,6 +54,41 @@ pub fn is_asleep(halt: HaltMode) -> bool
     }
 }
 
+// 3. A halt goes on for one idle access, and ends with it if an interrupt is requested; a CGB takes one access more.
+fn rest(cpu: Cpu, port: Port, mem: &mut [u8]) -> Woken
+    requires { ⌜ length (now mem) ≡ 65536 ⌝ }
+    requires { ⌜ isAsleep (cpu .halt) ≡ true ⌝ }
+    ensures { λ r. ⌜ Wakes cpu port (now (mem .entry)) (r .halting) (r .cpu) (r .port) (now (mem .exit)) × (length (now (mem .exit)) ≡ 65536) ⌝ }
+{
+    let p = memory::idle(port, mem);
+    let interrupt = peek_next_interrupt(mem);
+    let some = interrupt < 5;
+    if some {
+        let s = not_halting(cpu);
+        let dmg = cpu.dmg;
+        if dmg {
+            Woken {
+                cpu: s,
+                port: p,
+                halting: false,
+            }
+        } else {
+            let q = memory::idle(p, mem);
+            Woken {
+                cpu: s,
+                port: q,
+                halting: false,
+            }
+        }
+    } else {
+        Woken {
+            cpu: cpu,
+            port: p,
+            halting: true,
+        }
+    }
+}
+
 // 3. A halt that goes on, one that ends, or none.
 pub fn wake(cpu: Cpu, port: Port, mem: &mut [u8]) -> Woken
     requires { ⌜ length (now mem) ≡ 65536 ⌝ }
@@ -61,33 +97,7 @@ pub fn wake(cpu: Cpu, port: Port, mem: &mut [u8]) -> Woken
     let halt = cpu.halt;
     let asleep = is_asleep(halt);
     if asleep {
-        let p = memory::idle(port, mem);
-        let interrupt = peek_next_interrupt(mem);
-        let some = interrupt < 5;
-        if some {
-            let s = not_halting(cpu);
-            let dmg = cpu.dmg;
-            if dmg {
-                Woken {
-                    cpu: s,
-                    port: p,
-                    halting: false,
-                }
-            } else {
-                let q = memory::idle(p, mem);
-                Woken {
-                    cpu: s,
-                    port: q,
-                    halting: false,
-                }
-            }
-        } else {
-            Woken {
-                cpu: cpu,
-                port: p,
-                halting: true,
-            }
-        }
+        rest(cpu, port, mem)
     } else {
         Woken {
             cpu: cpu,

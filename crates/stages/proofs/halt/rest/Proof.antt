@@ -1,0 +1,34 @@
+-- Shows point 3 for a halt: it goes on, or it ends with one access or with two.
+use borrow.Author.Needs.{needs}
+use mathlib.Core.Path.{refl}
+use Rattle.stages.proofs.Stepping.{still-asleep, woken-dmg, woken-cgb}
+use Rattle.stages.proofs.halt.rest.Statement.{statement}
+use Rattle.stages.proofs.halt.rest.Tie as tie
+
+returns : tie.Need-returns
+returns c =
+    let start = c .before .before .before .before .before .before .before .before .before .before .before .before in
+    let idle = c .before .before .before .before .before .before .before .before .before .idle in
+    let peek = c .before .before .before .before .before .peek-next-interrupt in
+    (woken-dmg (start .args .cpu) _ _ _ refl _ _ _ _ (start .pre .1) (idle .ensures .0) (idle .ensures .1) (peek .ensures .0) (peek .ensures .1) _ (c .before .before .if1 .taken) (c .before .not-halting .ensures) (c .if2 .taken), peek .ensures .2)
+
+returns-2 : tie.Need-returns-2
+returns-2 c =
+    let start = c .before .before .before .before .before .before .before .before .before .before .before .before .before .before .before .before in
+    let idle = c .before .before .before .before .before .before .before .before .before .before .before .before .before .idle in
+    let peek = c .before .before .before .before .before .before .before .before .before .peek-next-interrupt in
+    let more = c .before .before .idle2 in
+    (woken-cgb (start .args .cpu) _ _ _ refl _ _ _ _ (start .pre .1) (idle .ensures .0) (idle .ensures .1) (peek .ensures .0) (peek .ensures .1) _ (c .before .before .before .before .before .before .if1 .taken) (c .before .before .before .before .before .not-halting .ensures) _ _ (c .before .before .before .before .if2 .left) (more .ensures .0) (more .ensures .1), more .ensures .2)
+
+returns-3 : tie.Need-returns-3
+returns-3 c =
+    let start = c .before .before .before .before .before .before .before .before .before .before in
+    let idle = c .before .before .before .before .before .before .before .idle in
+    let peek = c .before .before .before .peek-next-interrupt in
+    (still-asleep _ _ _ _ refl _ _ _ _ (start .pre .1) (idle .ensures .0) (idle .ensures .1) (peek .ensures .0) (peek .ensures .1) (c .if1 .left), peek .ensures .2)
+
+pub rest-spec : {M : Type 1} → statement M
+rest-spec =
+    tie.close
+    (tie.spec
+    (λ c κs. search needs) (λ c κs. search needs) (λ c κs. search needs) (λ c κs. search needs) (λ c. search needs) returns (λ c. search needs) returns-2 (λ c. search needs) returns-3)
