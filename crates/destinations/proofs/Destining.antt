@@ -12,6 +12,8 @@ use Rattle.definition.specs.Bus.{Ask, Operand}
 use Rattle.definition.specs.Step.{Ended}
 use Rattle.definition.specs.Execution.{store}
 use Rattle.memory.specs.declared.Port.{Port}
+use Rattle.accesses.specs.declared.answers.Both.{Both}
+use Rattle.destinations.specs.Widths.{both}
 use Rattle.memory.specs.World.{world, leads}
 use Rattle.accesses.specs.Leads.{Leads}
 use Rattle.mirror.specs.Operands.{writeOperand}
@@ -26,59 +28,61 @@ module _ (s t : Cpu) (port port' : Port) (m m' : List ℕ) (v : ℕ) (ty : Opera
   stored-at kind a b e same e' l = written kind e (λ k. same k ∙ stored s t port port' m m' (lowByte v) a b e' l k)
 
 module _ (s : Cpu) (port : Port) (m : List ℕ) (v : ℕ) (ty : OperandType) where
-  -- into registers, which are put back into the state
-  module _ (t : Cpu) (regs : CpuRegisters) where
-    into : (kind : OperandType) (g : CpuRegisters → CpuRegisters) → Leads (writeOperand kind v) s port m tt (onRegisters g s) port m → ty ≡ kind → regs ≡ g (s .registers) → t ≡ onRegisters (λ _. regs) s → Leads (writeOperand ty v) s port m tt t port m
-    into kind g l e e' e'' = arm s (onRegisters g s) port port m m t (λ (x : OperandType). writeOperand x v) ty kind tt tt e refl (e'' ∙ ap (λ (q : CpuRegisters). onRegisters (λ _. q) s) e') l
+  pub nowhere : ty ≡ ot.Implied → Leads (writeOperand ty v) s port m tt s port m
+  unfolding writeOperand
+  nowhere e = written s s port port m m v ty ot.Implied e (λ k. refl)
 
-    pub into-a : ty ≡ ot.RegA → regs ≡ writeA (lowByte v) (s .registers) → t ≡ onRegisters (λ _. regs) s → Leads (writeOperand ty v) s port m tt t port m
+  -- into registers, which are put back into the state
+  module _ (r : Both) (regs : CpuRegisters) where
+    into : (kind : OperandType) (g : CpuRegisters → CpuRegisters) → Leads (writeOperand kind v) s port m tt (onRegisters g s) port m → ty ≡ kind → regs ≡ g (s .registers) → r ≡ both (onRegisters (λ _. regs) s) port → Leads (writeOperand ty v) s port m tt (r .cpu) (r .port) m
+    into kind g l e e' e'' =
+        let put : onRegisters (λ _. regs) s ≡ onRegisters g s = ap (λ (q : CpuRegisters). onRegisters (λ _. q) s) e' in
+        subst (λ (x : Both). Leads (writeOperand ty v) s port m tt (x .cpu) (x .port) m) (sym e'') (arm s (onRegisters g s) port port m m (onRegisters (λ _. regs) s) (λ (x : OperandType). writeOperand x v) ty kind tt tt e refl put l)
+
+    pub into-a : ty ≡ ot.RegA → regs ≡ writeA (lowByte v) (s .registers) → r ≡ both (onRegisters (λ _. regs) s) port → Leads (writeOperand ty v) s port m tt (r .cpu) (r .port) m
     unfolding writeOperand
     into-a = into ot.RegA (writeA (lowByte v)) (λ k. refl)
 
-    pub into-b : ty ≡ ot.RegB → regs ≡ putBC (lowByte v) (s .registers .c) (s .registers) → t ≡ onRegisters (λ _. regs) s → Leads (writeOperand ty v) s port m tt t port m
+    pub into-b : ty ≡ ot.RegB → regs ≡ putBC (lowByte v) (s .registers .c) (s .registers) → r ≡ both (onRegisters (λ _. regs) s) port → Leads (writeOperand ty v) s port m tt (r .cpu) (r .port) m
     unfolding writeOperand
     into-b = into ot.RegB (λ r. putBC (lowByte v) (r .c) r) (λ k. refl)
 
-    pub into-c : ty ≡ ot.RegC → regs ≡ putBC (s .registers .b) (lowByte v) (s .registers) → t ≡ onRegisters (λ _. regs) s → Leads (writeOperand ty v) s port m tt t port m
+    pub into-c : ty ≡ ot.RegC → regs ≡ putBC (s .registers .b) (lowByte v) (s .registers) → r ≡ both (onRegisters (λ _. regs) s) port → Leads (writeOperand ty v) s port m tt (r .cpu) (r .port) m
     unfolding writeOperand
     into-c = into ot.RegC (λ r. putBC (r .b) (lowByte v) r) (λ k. refl)
 
-    pub into-d : ty ≡ ot.RegD → regs ≡ putDE (lowByte v) (s .registers .e) (s .registers) → t ≡ onRegisters (λ _. regs) s → Leads (writeOperand ty v) s port m tt t port m
+    pub into-d : ty ≡ ot.RegD → regs ≡ putDE (lowByte v) (s .registers .e) (s .registers) → r ≡ both (onRegisters (λ _. regs) s) port → Leads (writeOperand ty v) s port m tt (r .cpu) (r .port) m
     unfolding writeOperand
     into-d = into ot.RegD (λ r. putDE (lowByte v) (r .e) r) (λ k. refl)
 
-    pub into-e : ty ≡ ot.RegE → regs ≡ putDE (s .registers .d) (lowByte v) (s .registers) → t ≡ onRegisters (λ _. regs) s → Leads (writeOperand ty v) s port m tt t port m
+    pub into-e : ty ≡ ot.RegE → regs ≡ putDE (s .registers .d) (lowByte v) (s .registers) → r ≡ both (onRegisters (λ _. regs) s) port → Leads (writeOperand ty v) s port m tt (r .cpu) (r .port) m
     unfolding writeOperand
     into-e = into ot.RegE (λ r. putDE (r .d) (lowByte v) r) (λ k. refl)
 
-    pub into-h : ty ≡ ot.RegH → regs ≡ putHL (lowByte v) (s .registers .l) (s .registers) → t ≡ onRegisters (λ _. regs) s → Leads (writeOperand ty v) s port m tt t port m
+    pub into-h : ty ≡ ot.RegH → regs ≡ putHL (lowByte v) (s .registers .l) (s .registers) → r ≡ both (onRegisters (λ _. regs) s) port → Leads (writeOperand ty v) s port m tt (r .cpu) (r .port) m
     unfolding writeOperand
     into-h = into ot.RegH (λ r. putHL (lowByte v) (r .l) r) (λ k. refl)
 
-    pub into-l : ty ≡ ot.RegL → regs ≡ putHL (s .registers .h) (lowByte v) (s .registers) → t ≡ onRegisters (λ _. regs) s → Leads (writeOperand ty v) s port m tt t port m
+    pub into-l : ty ≡ ot.RegL → regs ≡ putHL (s .registers .h) (lowByte v) (s .registers) → r ≡ both (onRegisters (λ _. regs) s) port → Leads (writeOperand ty v) s port m tt (r .cpu) (r .port) m
     unfolding writeOperand
     into-l = into ot.RegL (λ r. putHL (r .h) (lowByte v) r) (λ k. refl)
 
-    pub into-af : ty ≡ ot.RegAF → regs ≡ writeAF v (s .registers) → t ≡ onRegisters (λ _. regs) s → Leads (writeOperand ty v) s port m tt t port m
+    pub into-af : ty ≡ ot.RegAF → regs ≡ writeAF v (s .registers) → r ≡ both (onRegisters (λ _. regs) s) port → Leads (writeOperand ty v) s port m tt (r .cpu) (r .port) m
     unfolding writeOperand
     into-af = into ot.RegAF (writeAF v) (λ k. refl)
 
-    pub into-bc : ty ≡ ot.RegBC → regs ≡ writeBC v (s .registers) → t ≡ onRegisters (λ _. regs) s → Leads (writeOperand ty v) s port m tt t port m
+    pub into-bc : ty ≡ ot.RegBC → regs ≡ writeBC v (s .registers) → r ≡ both (onRegisters (λ _. regs) s) port → Leads (writeOperand ty v) s port m tt (r .cpu) (r .port) m
     unfolding writeOperand
     into-bc = into ot.RegBC (writeBC v) (λ k. refl)
 
-    pub into-de : ty ≡ ot.RegDE → regs ≡ writeDE v (s .registers) → t ≡ onRegisters (λ _. regs) s → Leads (writeOperand ty v) s port m tt t port m
+    pub into-de : ty ≡ ot.RegDE → regs ≡ writeDE v (s .registers) → r ≡ both (onRegisters (λ _. regs) s) port → Leads (writeOperand ty v) s port m tt (r .cpu) (r .port) m
     unfolding writeOperand
     into-de = into ot.RegDE (writeDE v) (λ k. refl)
 
-    pub into-hl : ty ≡ ot.RegHL → regs ≡ writeHL v (s .registers) → t ≡ onRegisters (λ _. regs) s → Leads (writeOperand ty v) s port m tt t port m
+    pub into-hl : ty ≡ ot.RegHL → regs ≡ writeHL v (s .registers) → r ≡ both (onRegisters (λ _. regs) s) port → Leads (writeOperand ty v) s port m tt (r .cpu) (r .port) m
     unfolding writeOperand
     into-hl = into ot.RegHL (writeHL v) (λ k. refl)
 
-    pub into-sp : ty ≡ ot.RegSP → regs ≡ writeSP v (s .registers) → t ≡ onRegisters (λ _. regs) s → Leads (writeOperand ty v) s port m tt t port m
+    pub into-sp : ty ≡ ot.RegSP → regs ≡ writeSP v (s .registers) → r ≡ both (onRegisters (λ _. regs) s) port → Leads (writeOperand ty v) s port m tt (r .cpu) (r .port) m
     unfolding writeOperand
     into-sp = into ot.RegSP (writeSP v) (λ k. refl)
-
-    pub nowhere : ty ≡ ot.Implied → regs ≡ s .registers → t ≡ onRegisters (λ _. regs) s → Leads (writeOperand ty v) s port m tt t port m
-    unfolding writeOperand
-    nowhere = into ot.Implied (λ r. r) (λ k. refl)

@@ -1,2 +1,3 @@
 -- Laws over plain variables, each applied to what the callees of one function ensure.
 pub mod Destining
+pub mod Widths

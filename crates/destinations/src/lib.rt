@@ -1,11 +1,15 @@
 // Where a result goes.
 ghost use mathlib.Core.Path.{_≡_};
-ghost use lib.Dec.{T};
+ghost use mathlib.Core.List.{List};
+ghost use Prim.Native.Nat.{ℕ};
+ghost use lib.Dec.{T, eqb};
 ghost use lib.ListN.{length};
 ghost use Rattle.instruction.specs.declared.operand.OperandType.the-variants.{AddrHLDec, AddrHLInc, HighAddr8, Addr16, Addr16Val16};
+ghost use Rattle.sm83.specs.State.{onRegisters};
 ghost use Rattle.accesses.specs.Leads.{Leads};
 ghost use Rattle.mirror.specs.Operands.{writeOperand};
 ghost use Rattle.instruction.specs.Operand.{writable};
+ghost use Rattle.destinations.specs.Widths.{both, widthOf};
 use accesses::access::high;
 use accesses::access::store;
 use accesses::answers::Both;
@@ -15,6 +19,7 @@ use accesses::fetch::fetch16;
 use instruction::operand::OperandType;
 use memory::Port;
 use sm83::addr::Addr;
+use sm83::registers::CpuRegisters;
 use sm83::state::Cpu;
 
 fn write_hl_dec(cpu: Cpu, port: Port, value: u16, mem: &mut [u8]) -> Both
@@ -85,6 +90,54 @@ fn never_written(cpu: Cpu, port: Port) -> Both
     }
 }
 
+// The registers are put back into the state.
+fn left(cpu: Cpu, port: Port, regs: CpuRegisters) -> Both
+    ensures { λ r. ⌜ r ≡ both (onRegisters (λ _. regs) cpu) port ⌝ }
+{
+    let s = with_registers(cpu, regs);
+    Both { cpu: s, port: port }
+}
+
+// A register of one byte: the low byte of the value.
+fn write_byte(cpu: Cpu, port: Port, ty: OperandType, value: u16) -> Both
+    requires { ⌜ T (eqb (widthOf ty) 1) ⌝ }
+    ensures { λ r. ⌜ ((m : List ℕ) → Leads (writeOperand ty value) cpu port m tt (r .cpu) (r .port) m) ⌝ }
+{
+    let mut regs = cpu.registers;
+    let low = (value % 256) as u8;
+    match ty {
+        OperandType::RegA => {
+            regs.a = low;
+            left(cpu, port, regs)
+        }
+        OperandType::RegB => {
+            regs.b = low;
+            left(cpu, port, regs)
+        }
+        OperandType::RegC => {
+            regs.c = low;
+            left(cpu, port, regs)
+        }
+        OperandType::RegD => {
+            regs.d = low;
+            left(cpu, port, regs)
+        }
+        OperandType::RegE => {
+            regs.e = low;
+            left(cpu, port, regs)
+        }
+        OperandType::RegH => {
+            regs.h = low;
+            left(cpu, port, regs)
+        }
+        OperandType::RegL => {
+            regs.l = low;
+            left(cpu, port, regs)
+        }
+        _ => never_written(cpu, port),
+    }
+}
+
 pub fn write_operand(cpu: Cpu, port: Port, ty: OperandType, value: u16, mem: &mut [u8]) -> Both
     requires { ⌜ length (now mem) ≡ 65536 ⌝ }
     requires { ⌜ T (writable ty) ⌝ }
@@ -92,34 +145,32 @@ pub fn write_operand(cpu: Cpu, port: Port, ty: OperandType, value: u16, mem: &mu
 {
     let mut regs = cpu.registers;
     let low = (value % 256) as u8;
-    let word = Addr(value);
     match ty {
-        OperandType::RegA => regs.a = low,
-        OperandType::RegB => regs.b = low,
-        OperandType::RegC => regs.c = low,
-        OperandType::RegD => regs.d = low,
-        OperandType::RegE => regs.e = low,
-        OperandType::RegH => regs.h = low,
-        OperandType::RegL => regs.l = low,
-        OperandType::AddrHL => return store(cpu, port, Addr(regs.reg_hl_read()), low, mem),
-        OperandType::AddrHLDec => return write_hl_dec(cpu, port, value, mem),
-        OperandType::AddrHLInc => return write_hl_inc(cpu, port, value, mem),
-        OperandType::AddrBC => return store(cpu, port, Addr(regs.reg_bc_read()), low, mem),
-        OperandType::AddrDE => return store(cpu, port, Addr(regs.reg_de_read()), low, mem),
-        OperandType::RegAF => regs = regs.reg_af_write(value),
-        OperandType::RegBC => regs = regs.reg_bc_write(value),
-        OperandType::RegDE => regs = regs.reg_de_write(value),
-        OperandType::RegHL => regs = regs.reg_hl_write(value),
-        OperandType::RegSP => regs.sp = word,
-        OperandType::Imm8 => return never_written(cpu, port),
-        OperandType::Imm8Signed => return never_written(cpu, port),
-        OperandType::Imm16 => return never_written(cpu, port),
-        OperandType::HighAddr8 => return write_high(cpu, port, value, mem),
-        OperandType::HighAddrC => return store(cpu, port, high(regs.c), low, mem),
-        OperandType::Addr16 => return write_at16(cpu, port, value, mem),
-        OperandType::Addr16Val16 => return write_word_at16(cpu, port, value, mem),
-        OperandType::Implied => {}
+        OperandType::AddrHL => store(cpu, port, Addr(regs.reg_hl_read()), low, mem),
+        OperandType::AddrHLDec => write_hl_dec(cpu, port, value, mem),
+        OperandType::AddrHLInc => write_hl_inc(cpu, port, value, mem),
+        OperandType::AddrBC => store(cpu, port, Addr(regs.reg_bc_read()), low, mem),
+        OperandType::AddrDE => store(cpu, port, Addr(regs.reg_de_read()), low, mem),
+        OperandType::RegAF => left(cpu, port, regs.reg_af_write(value)),
+        OperandType::RegBC => left(cpu, port, regs.reg_bc_write(value)),
+        OperandType::RegDE => left(cpu, port, regs.reg_de_write(value)),
+        OperandType::RegHL => left(cpu, port, regs.reg_hl_write(value)),
+        OperandType::RegSP => {
+            let sp = Addr(value);
+            regs.sp = sp;
+            left(cpu, port, regs)
+        }
+        OperandType::Imm8 => never_written(cpu, port),
+        OperandType::Imm8Signed => never_written(cpu, port),
+        OperandType::Imm16 => never_written(cpu, port),
+        OperandType::HighAddr8 => write_high(cpu, port, value, mem),
+        OperandType::HighAddrC => store(cpu, port, high(regs.c), low, mem),
+        OperandType::Addr16 => write_at16(cpu, port, value, mem),
+        OperandType::Addr16Val16 => write_word_at16(cpu, port, value, mem),
+        OperandType::Implied => Both {
+            cpu: cpu,
+            port: port,
+        },
+        _ => write_byte(cpu, port, ty, value),
     }
-    let s = with_registers(cpu, regs);
-    Both { cpu: s, port: port }
 }

@@ -1,10 +1,10 @@
 -- A `_` arm of a match on an enum is told which tags are left. What holds of the values with these tags comes from one test for each variant.
-use mathlib.Core.Path.{_≡_, refl, ap, sym, subst}
-use mathlib.Core.Bool.{Bool, true, false, not, _&&_, _||_}
+use mathlib.Core.Path.{_≡_, refl, ap, sym, subst, _∙_}
+use mathlib.Core.Bool.{Bool, true, false, not, _&&_}
 use mathlib.Core.List.{List, [], _∷_}
 use mathlib.Core.Logic.{inl, inr}
-use Prim.Native.Nat.{ℕ, suc}
-use lib.Dec.{T}
+use Prim.Native.Nat.{ℕ, zero, suc}
+use lib.Dec.{T, eqb, eqb→eq}
 use denote.Enum.Enum.{tag}
 use denote.Enum.Declared.{Choice, Record, declared, rowss, intoss, tagOf}
 use denote.Struct.Field.{Field}
@@ -20,7 +20,7 @@ both : (a b : Bool) → T (a && b) → T a × T b
 both true b h = (tt, h)
 both false b h = absurd h
 
-pub of-keys : (q : ℕ → Bool) (k : ℕ) (ks : List ℕ) (x : ℕ) → T (all q (k ∷ ks)) → OneOf (k ∷ ks) x → T (q x)
+of-keys : (q : ℕ → Bool) (k : ℕ) (ks : List ℕ) (x : ℕ) → T (all q (k ∷ ks)) → OneOf (k ∷ ks) x → T (q x)
 of-keys q k [] x h e = subst (λ (y : ℕ). T (q y)) (sym e) (both (q k) true h .0)
 of-keys q k (j ∷ ks) x h (inl e) = subst (λ (y : ℕ). T (q y)) (sym e) (both (q k) (all q (j ∷ ks)) h .0)
 of-keys q k (j ∷ ks) x h (inr e) = of-keys q j ks x (both (q k) (all q (j ∷ ks)) h .1) e
@@ -58,12 +58,24 @@ place-is [] c = absurd c
 place-is (p ∷ ps) (inl v) = refl
 place-is (p ∷ ps) (inr c) = subst (λ (n : ℕ). n ≡ suc (tag (rowss ps) (intoss ps c))) (sym (later 0 ps c)) (ap suc (place-is ps c))
 
-module _ (N : Record) (f : ℕ → N .D → Bool) where
-  abbrev on : ℕ → Choice (N .parts) → Bool
-  on n c = f n (N .make c)
+-- so many numbers from one on
+abbrev pub from : ℕ → ℕ → List ℕ
+from n zero = []
+from n (suc k) = n ∷ from (suc n) k
 
-  pub every : T (closed 0 (N .parts) on) → Open 0 (N .parts) on → (d : N .D) → T (f (tagOf (declared N) d) d)
-  every s h d =
-      let there : T (on (placeFrom 0 (N .parts) (N .as-values d)) (N .as-values d)) = each 0 (N .parts) on s h (N .as-values d) in
-      let named : T (f (placeFrom 0 (N .parts) (N .as-values d)) d) = subst (λ (x : N .D). T (f (placeFrom 0 (N .parts) (N .as-values d)) x)) (N .eta d) there in
-      subst (λ (n : ℕ). T (f n d)) (place-is (N .parts) (N .as-values d)) named
+-- a number of each value that goes by its tag
+module _ (N : Record) (g : N .D → ℕ) (h : ℕ → ℕ) where
+  abbrev on : ℕ → Choice (N .parts) → Bool
+  on n c = eqb (h n) (g (N .make c))
+
+  goes-by : T (closed 0 (N .parts) on) → Open 0 (N .parts) on → (d : N .D) → h (tagOf (declared N) d) ≡ g d
+  goes-by s o d =
+      let there : h (placeFrom 0 (N .parts) (N .as-values d)) ≡ g (N .make (N .as-values d)) = eqb→eq _ _ (each 0 (N .parts) on s o (N .as-values d)) in
+      ap h (sym (place-is (N .parts) (N .as-values d))) ∙ there ∙ ap g (N .eta d)
+
+  pub left-over : T (closed 0 (N .parts) on) → Open 0 (N .parts) on → (q : ℕ → Bool) (k : ℕ) (ks : List ℕ) → T (all (λ n. q (h n)) (k ∷ ks)) → (d : N .D) → OneOf (k ∷ ks) (tagOf (declared N) d) → T (q (g d))
+  left-over s o q k ks t d e = subst (λ (n : ℕ). T (q n)) (goes-by s o d) (of-keys (λ n. q (h n)) k ks (tagOf (declared N) d) t e)
+
+pub contrary : (b : Bool) → T (not b) → T b → ⊥
+contrary true n y = n
+contrary false n y = y
