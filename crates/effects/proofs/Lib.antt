@@ -1,3 +1,3 @@
 -- Laws over plain variables, each applied to what the callees of one function ensure.
 pub mod OnWords
-pub mod Jumping
+pub mod Halting

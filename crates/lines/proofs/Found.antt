@@ -10,7 +10,7 @@ use lib.ListN.{length, take, drop, getD, drop-of-length-le, length-drop}
 use lib.Seq.{drop-cons, take-suc, take-all}
 use borrow.Author.Tests.{lt-ltb, le-ltb, eq-eqb, ne-eqb}
 use Rattle.text.specs.Page.{choose}
-use Rattle.lines.specs.Lines.{until, lineEnd, fromLine, same, names, numberFrom}
+use Rattle.lines.specs.Lines.{until, lineEnd, fromLine, names, numberFrom}
 
 -- a text that has a byte left, and one that has none
 pub here : (text : List ℕ) (i : ℕ) → i < length text → drop i text ≡ getD text i 0 ∷ drop (i + 1) text

@@ -1,3 +1,2 @@
 -- What is proved of texts of lines.
 pub mod Found
-pub mod Same

@@ -4,6 +4,7 @@ use mathlib.Core.List.{List, [], _∷_}
 use Prim.Native.Nat.{ℕ, _+_, _-_}
 use lib.Dec.{eqb, ltb}
 use Rattle.text.specs.Page.{choose}
+use Rattle.same.specs.Bytes.{sameBytes}
 
 -- what stands in front of the first byte below `end`: 11 ends a line, 33 a word
 unfoldable pub until : ℕ → List ℕ → List ℕ
@@ -23,15 +24,9 @@ fromLine n (b ∷ bs) = choose (eqb n 0) (b ∷ bs) (fromLine (n - lineEnd b) bs
 abbrev pub lineOf : List ℕ → ℕ → List ℕ
 lineOf text n = until 11 (fromLine n text)
 
-unfoldable pub same : List ℕ → List ℕ → Bool
-same [] [] = true
-same [] (y ∷ ys) = false
-same (x ∷ xs) [] = false
-same (x ∷ xs) (y ∷ ys) = eqb x y && same xs ys
-
 -- a word starts here, and it is this one
 unfoldable pub names : Bool → List ℕ → List ℕ → Bool
-names starts text word = starts && same (until 33 text) word
+names starts text word = starts && sameBytes (until 33 text) word
 
 unfoldable pub numberFrom : ℕ → Bool → List ℕ → List ℕ → ℕ
 numberFrom n starts [] word = 0

@@ -5,6 +5,7 @@ ghost use mathlib.Core.Bool.{_&&_};
 ghost use Prim.Native.Nat.{_-_, _≤_};
 ghost use lib.ListN.{length, take, drop};
 ghost use Rattle.lines.specs.Lines.{until, lineEnd, fromLine, lineOf, names, numberOf};
+use same::same;
 
 // How long the text is in front of its first byte below `end`.
 fn end_of(text: &[u8], end: u8) -> usize
@@ -59,7 +60,7 @@ fn names(starts: bool, text: &[u8], word: &[u8]) -> bool
 {
     if starts {
         let to = end_of(text, 33);
-        return check::same(&text[..to], word);
+        return same(&text[..to], word);
     }
     false
 }

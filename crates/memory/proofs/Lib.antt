@@ -1,3 +1,2 @@
 -- What the callees of taking an interrupt ensure, put together.
-pub mod Taking
 pub mod Counted

@@ -6,8 +6,6 @@ ghost use Rattle.memory.specs.World.{counted};
 use sm83::addr::Addr;
 use sm83::addr::MCycles;
 
-pub mod interrupts;
-
 pub struct Port {
     pub cycles: MCycles,
 }

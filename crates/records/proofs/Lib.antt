@@ -1,5 +1,5 @@
 -- The laws behind reading a record.
-pub mod SameBytes
+pub mod Patching
 pub mod Within
 pub mod Noting
 pub mod Fronts

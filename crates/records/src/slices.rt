@@ -1,15 +1,9 @@
-// Slices: two compared, and bytes put where a record's triples say.
+// Bytes put where a record's triples say.
 ghost use mathlib.Core.Path.{_≡_};
 ghost use Prim.Native.Nat.{_+_, _*_, _≤_};
 ghost use lib.ListN.{length, set};
-ghost use Rattle.records.specs.Bytes.{sameBytes, patched};
+ghost use Rattle.records.specs.Bytes.{patched};
 use fields::bytes::word_at;
-
-pub fn same(a: &[u8], b: &[u8]) -> bool
-    ensures { λ r. ⌜ r ≡ sameBytes (now (a .entry)) (now (b .entry)) ⌝ }
-{
-    check::same(a, b)
-}
 
 // An address past the end is passed over.
 fn put(s: &mut [u8], at: usize, v: u8)

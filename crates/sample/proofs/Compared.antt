@@ -7,7 +7,8 @@ use lib.Dec.{eqb}
 use lib.ListN.{replicate}
 use Rattle.fields.specs.Bytes.{wordAt}
 use Rattle.calls.specs.Left.{left, runBlocks}
-use Rattle.records.specs.Bytes.{sameBytes, part, patched}
+use Rattle.records.specs.Bytes.{part, patched}
+use Rattle.same.specs.Bytes.{sameBytes}
 use Rattle.records.specs.Record.{kindOf, listed, changed, memoryFrom}
 use Rattle.sample.specs.Told.{budgetOf, asked, told, sameLeft}
 

@@ -7,11 +7,12 @@ use lib.Dec.{eqb}
 use lib.ListN.{length}
 use borrow.Author.Tests.{eqb-true}
 use Rattle.calls.specs.Left.{Left, left}
-use Rattle.records.specs.Bytes.{sameBytes}
+use Rattle.same.specs.Bytes.{sameBytes}
 use Rattle.records.specs.Record.{memoryLength}
 use Rattle.sample.specs.Told.{asked, told, sameLeft}
 use Rattle.sample.specs.Replay.{runSize, agreesRun}
-use Rattle.records.proofs.SameBytes.{and-first, and-second, chosen, same-equal}
+use Rattle.same.proofs.SameBytes.{and-first, and-second, same-equal}
+use Rattle.windows.proofs.Windowed.{chosen}
 
 same-left : (a b : Left) → sameLeft a b ≡ true → a ≡ b
 same-left a b h =

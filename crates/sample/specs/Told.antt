@@ -7,7 +7,8 @@ use lib.ListN.{replicate}
 use Rattle.sm83.specs.Basics.{if_then_else_}
 use Rattle.fields.specs.Bytes.{wordAt}
 use Rattle.calls.specs.Left.{Left, left, runBlocks}
-use Rattle.records.specs.Bytes.{sameBytes, part, patched}
+use Rattle.records.specs.Bytes.{part, patched}
+use Rattle.same.specs.Bytes.{sameBytes}
 use Rattle.records.specs.Record.{kindOf, listed, changed, memoryFrom}
 
 abbrev pub budgetOf : ℕ → ℕ → ℕ

@@ -14,7 +14,7 @@ use records::layout::listed;
 use records::layout::memory_length;
 use records::layout::wide;
 use records::slices::patch;
-use records::slices::same;
+use same::same;
 
 fn ask(kind: u8, state: &mut [u8], mem: &mut [u8], budget: u16, answer: &mut [u8]) -> u16
     ensures { λ r. ⌜ left r (now (state .exit)) (now (mem .exit)) (now (answer .exit)) ≡ runBlocks (budgetOf kind budget) (now (state .entry)) (now (mem .entry)) (now (answer .entry)) ⌝ }

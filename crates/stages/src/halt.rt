@@ -6,8 +6,8 @@ ghost use Rattle.sm83.specs.State.{setHalt};
 ghost use Rattle.sm83.specs.declared.state.HaltMode.the-variants.{NotHalting};
 ghost use Rattle.definition.specs.Step.{isBug, isAsleep};
 ghost use Rattle.stages.specs.Stages.{Wakes};
+use interrupts::peek_next_interrupt;
 use memory::Port;
-use memory::interrupts::peek_next_interrupt;
 use sm83::state::Cpu;
 use sm83::state::HaltMode;
 

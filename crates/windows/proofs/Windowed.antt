@@ -1,17 +1,19 @@
 -- The window of a record, screened: the test of its length, what the callees ensure put together, and what agreeing means, value by value.
-use mathlib.Core.Path.{_≡_, ap, ap₂, sym, _∙_}
+use mathlib.Core.Path.{_≡_, refl, ap, ap₂, sym, _∙_}
 use mathlib.Core.Bool.{Bool, true, false, _&&_}
 use mathlib.Core.List.{List}
 use Prim.Native.Nat.{ℕ, _+_, _*_}
 use lib.Dec.{eqb}
 use lib.ListN.{length, replicate}
 use borrow.Author.Tests.{eq-eqb, ne-eqb, eqb-true}
+use Rattle.sm83.specs.Basics.{if_then_else_}
 use Rattle.definition.specs.Bus.{byteAt}
 use Rattle.fields.specs.Bytes.{wordAt}
 use Rattle.screencall.specs.Screened.{LeftByScreen, leftByScreen, screenBlocks}
-use Rattle.records.specs.Bytes.{sameBytes, part}
+use Rattle.records.specs.Bytes.{part}
+use Rattle.same.specs.Bytes.{sameBytes}
 use Rattle.records.specs.Record.{nameLength, memoryLength, listed, changed, memoryFrom}
-use Rattle.records.proofs.SameBytes.{and-first, and-second, chosen, same-equal}
+use Rattle.same.proofs.SameBytes.{and-first, and-second, same-equal}
 use Rattle.windows.specs.Window.{windowSize, askedScreen, toldScreen, sameScreen, agreesWindow}
 
 module _ (r : List ℕ) {n k w : ℕ} (listing : n ≡ listed r) (changing : k ≡ changed r) (naming : w ≡ nameLength r) where
@@ -39,6 +41,11 @@ same-screen a b h =
     let more = and-second (eqb (a .number) (b .number)) _ h in
     ap (λ (n : ℕ). leftByScreen n (a .marks) (a .answer)) (eqb-true _ _ (and-first (eqb (a .number) (b .number)) _ h))
     ∙ ap₂ (λ (m w : List ℕ). leftByScreen (b .number) m w) (same-equal _ _ (and-first (sameBytes (a .marks) (b .marks)) _ more)) (same-equal _ _ (and-second (sameBytes (a .marks) (b .marks)) _ more))
+
+pub chosen : (t b : Bool) → (if t then b else false) ≡ true → b ≡ true
+chosen true b h = h
+chosen false true h = refl
+chosen false false h = h
 
 pub window-means : (r : List ℕ) → agreesWindow r ≡ true → askedScreen r (memoryLength r) ≡ toldScreen r
 unfolding agreesWindow

@@ -8,7 +8,8 @@ use Rattle.sm83.specs.Basics.{if_then_else_}
 use Rattle.definition.specs.Bus.{byteAt}
 use Rattle.fields.specs.Bytes.{wordAt}
 use Rattle.screencall.specs.Screened.{LeftByScreen, leftByScreen, screenBlocks}
-use Rattle.records.specs.Bytes.{sameBytes, part}
+use Rattle.records.specs.Bytes.{part}
+use Rattle.same.specs.Bytes.{sameBytes}
 use Rattle.records.specs.Record.{nameLength, memoryLength, listed, changed, memoryFrom}
 
 abbrev pub marksTold : List ℕ → ℕ

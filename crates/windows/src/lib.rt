@@ -10,7 +10,7 @@ use records::layout::lay;
 use records::layout::listed;
 use records::layout::memory_length;
 use records::layout::wide;
-use records::slices::same;
+use same::same;
 use screencall::screen_blocks;
 
 // On memory as long as `mem` is, and as many marks as `marks` has.

@@ -1,12 +1,12 @@
--- Shows the comparison from what the kit's `same` ensures, both ways.
+-- Shows the comparison of the word that starts here.
 use mathlib.Core.Path.{_≡_, sym, ap, _∙_}
 use mathlib.Core.Bool.{Bool}
 use mathlib.Core.List.{List}
 use Prim.Native.Nat.{ℕ}
 use borrow.Author.Needs.{needs}
 use lib.Seq.{length-take-le}
-use Rattle.lines.specs.Lines.{names, same}
-use Rattle.lines.proofs.Same.{decides}
+use Rattle.lines.specs.Lines.{names}
+use Rattle.same.specs.Bytes.{sameBytes}
 use Rattle.lines.proofs.names.Statement.{statement}
 use Rattle.lines.proofs.names.Tie as tie
 
@@ -17,7 +17,7 @@ returns : tie.Need-returns
 unfolding names
 returns c =
     let word = c .before .before .before .before .before .before .args .word .now in
-    simp (c .before .before .before .if1 .taken) (decides _ _ _ (c .same .ensures .0) (c .same .ensures .1) ∙ ap (λ (l : List ℕ). same l word) (c .before .before .end-of .ensures .1))
+    simp (c .before .before .before .if1 .taken) (c .same .ensures ∙ ap (λ (l : List ℕ). sameBytes l word) (c .before .before .end-of .ensures .1))
 
 returns-2 : tie.Need-returns-2
 unfolding names

@@ -1,6 +1,6 @@
 -- Shows HALT with IME set, and with IME clear where an interrupt is pending and where none is.
 use borrow.Author.Needs.{needs}
-use Rattle.effects.proofs.Jumping.{halted, halted-off}
+use Rattle.effects.proofs.Halting.{halted, halted-off}
 use Rattle.effects.proofs.halt.halt.Statement.{statement}
 use Rattle.effects.proofs.halt.halt.Tie as tie
 

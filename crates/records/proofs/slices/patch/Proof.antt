@@ -4,7 +4,7 @@ use Prim.Native.Nat.{ℕ, _+_, _*_, _≤_}
 use native.Mathlib.Omega.{arith}
 use lib.ListN.{length, length-set}
 use Rattle.records.specs.Bytes.{patched}
-use Rattle.records.proofs.SameBytes.{patch-none, patch-turn}
+use Rattle.records.proofs.Patching.{patch-none, patch-turn}
 use Rattle.records.proofs.slices.patch.Statement.{statement}
 use Rattle.records.proofs.slices.patch.Tie as tie
 

@@ -1,0 +1,2 @@
+-- What is proved of sameness.
+pub mod SameBytes

@@ -1,0 +1,2 @@
+-- What the contract is stated with.
+pub mod Bytes
