@@ -1,10 +1,9 @@
 // How far a run is, while it goes on, and how it ended: its last outcome, the registers, what changed in memory, the image that is saved.
 use crate::far::Far;
-use tool::file;
-use tool::said;
-use tool::screening::after;
-use tool::screening::byte;
-use tool::sentences;
+use saying::file;
+use saying::said;
+use sentences::after;
+use sentences::byte;
 
 pub fn print_end(far: Far, mem: &[u8]) -> u8 {
     let cpu = far.cpu;

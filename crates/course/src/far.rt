@@ -8,10 +8,10 @@ use line::SP;
 use line::STATE;
 use line::ZERO;
 use outcome::LastOutcome;
+use saying::file::number;
 use sm83::addr::Addr;
 use sm83::registers::CpuRegisters;
 use sm83::state::Cpu;
-use tool::file::number;
 
 // How far a run has come.
 pub struct Far {

@@ -12,7 +12,7 @@ use memory::Port;
 use sm83::addr::Addr;
 use sm83::state::Cpu;
 use sources::read_operand;
-use stages::interrupts::Executed;
+use stages::dispatch::Executed;
 
 // `at` is the address of the instruction; PC is past its first byte, or its first two after a prefix.
 pub fn exec_instruction(

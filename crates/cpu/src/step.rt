@@ -11,10 +11,10 @@ use instruction::instruction::Instruction;
 use memory::Port;
 use outcome::Outcome;
 use sm83::state::Cpu;
+use stages::dispatch::Executed;
+use stages::dispatch::dispatch;
+use stages::dispatch::is_called;
 use stages::halt::wake;
-use stages::interrupts::Executed;
-use stages::interrupts::dispatch;
-use stages::interrupts::is_called;
 
 // 5 to 7.
 fn run_one(

@@ -17,8 +17,7 @@ use line::TRACE;
 use outcome::LastOutcome;
 use run::run;
 use run::step;
-use tool::said::Env;
-use tool::sentences;
+use saying::said::Env;
 
 // A step with its line: what stands before it, then what it did.
 fn traced(far: Far, mem: &mut [u8]) -> Far {

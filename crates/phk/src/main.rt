@@ -9,11 +9,11 @@ use line::HELP;
 use line::Line;
 use line::SCREEN;
 use line::VERSION;
-use tool::file;
-use tool::help;
-use tool::mistakes;
-use tool::said;
-use tool::said::Env;
+use saying::file;
+use saying::help;
+use saying::mistakes;
+use saying::said;
+use saying::said::Env;
 use tool::screening;
 
 // The words of the command line, from one on.

@@ -1,9 +1,4 @@
 // phk screen: the verdict, the marks and the map.
-use crate::file::number;
-use crate::page::within;
-use crate::said;
-use crate::said::Env;
-use crate::sentences;
 use line::FIRST;
 use line::LAST;
 use line::Line;
@@ -12,17 +7,13 @@ use line::MARKS;
 use outcome::Verdict;
 use picture::counts::count;
 use picture::kinds::draw;
+use saying::file::number;
+use saying::page::within;
+use saying::said;
+use saying::said::Env;
 use screen::screen::screen;
+use sentences::after;
 use sm83::addr::Addr;
-
-pub fn byte(mem: &[u8], a: u16) -> u8 {
-    reading::byte::byte(mem, Addr(a))
-}
-
-// Addresses wrap.
-pub fn after(a: u16, by: u16) -> u16 {
-    std::num::wrapping_add_u16(a, by)
-}
 
 fn mark(marks: &[u8], i: usize) -> bool {
     if i < marks.len() {

@@ -1,7 +1,7 @@
 -- Shows whether point 4 applies.
 use borrow.Author.Needs.{needs}
-use Rattle.stages.proofs.interrupts.is_called.Statement.{statement}
-use Rattle.stages.proofs.interrupts.is_called.Tie as tie
+use Rattle.stages.proofs.dispatch.is_called.Statement.{statement}
+use Rattle.stages.proofs.dispatch.is_called.Tie as tie
 
 returns : tie.Need-returns
 returns c = (simp (c .before .before .peek-next-interrupt .ensures .0, c .before .before .before .before .if1 .taken), c .before .before .peek-next-interrupt .ensures .1, c .before .before .peek-next-interrupt .ensures .2)

@@ -1,6 +1,6 @@
 -- Shows how a dispatch ends.
-use Rattle.stages.proofs.interrupts.running.Statement.{statement}
-use Rattle.stages.proofs.interrupts.running.Tie as tie
+use Rattle.stages.proofs.dispatch.running.Statement.{statement}
+use Rattle.stages.proofs.dispatch.running.Tie as tie
 
 returns : tie.Need-returns
 returns c = simp (c .if1 .taken)

@@ -2,8 +2,8 @@
 use borrow.Author.Needs.{needs}
 use mathlib.Core.Path.{sym, _∙_}
 use Rattle.stages.proofs.Stepping.{dispatches}
-use Rattle.stages.proofs.interrupts.dispatch.Statement.{statement}
-use Rattle.stages.proofs.interrupts.dispatch.Tie as tie
+use Rattle.stages.proofs.dispatch.dispatch.Statement.{statement}
+use Rattle.stages.proofs.dispatch.dispatch.Tie as tie
 
 same-length : tie.Need-same-length
 same-length c = c .before .before .before .before .idle3 .ensures .2 ∙ sym (c .before .before .before .before .before .before .before .before .before .before .before .before .before .before .before .before .before .before .before .before .before .before .before .before .before .before .before .before .before .before .before .pre)

@@ -1,12 +1,20 @@
 // What the tool says: each sentence and the form of each line, once. In a form # $ % & stand for the next value, as four hexadecimal
 // digits, two, a decimal number or flags, and @ for the word; a sentence that has a number is a line of a text.
-use crate::page::print;
-use crate::page::print_short;
-use crate::screening::after;
-use crate::screening::byte;
 use lines::line_of;
 use reading::opcode::length_of;
+use saying::page::print;
+use saying::page::print_short;
+use sm83::addr::Addr;
 use sm83::registers::CpuRegisters;
+
+pub fn byte(mem: &[u8], a: u16) -> u8 {
+    reading::byte::byte(mem, Addr(a))
+}
+
+// Addresses wrap.
+pub fn after(a: u16, by: u16) -> u16 {
+    std::num::wrapping_add_u16(a, by)
+}
 
 fn end_line() {
     io::write_all(1, b"\n");

@@ -1,8 +1,8 @@
 -- A bound that is tested, or the length itself.
 use Rattle.io.proofs.Counting.{counts}
 use native.Mathlib.Omega.{arith}
-use Rattle.tool.proofs.page.within.Statement.{statement}
-use Rattle.tool.proofs.page.within.Tie as tie
+use Rattle.saying.proofs.page.within.Statement.{statement}
+use Rattle.saying.proofs.page.within.Tie as tie
 
 returns : tie.Need-returns
 returns c = counts _ _ (omega arith)
