@@ -2,4 +2,3 @@
 pub mod access;
 pub mod answers;
 pub mod fetch;
-pub mod stack;

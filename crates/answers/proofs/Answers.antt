@@ -5,15 +5,11 @@ use Prim.Native.Nat.{ℕ}
 use lib.ListN.{length, take, drop}
 use Rattle.sm83.specs.declared.addr.MCycles.{MCycles}
 use Rattle.outcome.specs.declared.LastOutcome.{LastOutcome}
-use Rattle.outcome.specs.declared.Verdict.{Verdict}
-use Rattle.definition.specs.Bus.{byteAt}
-use Rattle.outcome.specs.Numbers.{lastNumber, verdictNumber}
+use Rattle.outcome.specs.Numbers.{lastNumber}
 use Rattle.fields.specs.Bytes.{wordAt, countAt}
 use Rattle.fields.specs.Registers.{registersAt}
-use Rattle.blocks.specs.StateBlock.{flagAt}
 use Rattle.answers.specs.AnswerBlock.{shown, answerFields, answerBytes}
-use Rattle.answers.specs.ScreenBlock.{named, address, verdictFields, verdictBytes}
-use Rattle.blocks.proofs.Coded.{word-there, count-there, flag-there}
+use Rattle.blocks.proofs.Coded.{word-there, count-there}
 use Rattle.fields.proofs.Filled.{at-length}
 
 -- what stands in a step's or a run's answer
@@ -37,17 +33,3 @@ fields-answer last steps cycles rest =
 pub answer-there : (last : LastOutcome) (steps : ℕ) (cycles : MCycles) (block : List ℕ) → length block ≡ 24 → Answers last steps cycles (answerBytes last steps cycles block)
 answer-there last steps cycles block same =
     subst (Answers last steps cycles) (sym (at-length 24 (answerFields last steps cycles) block same)) (fields-answer last steps cycles (drop 24 block))
-
--- what stands in a screen's answer
-pub record Says (verdict : Verdict) (block : List ℕ) : Type 0 where
-  pub number-at-0 : byteAt block 0 ≡ verdictNumber verdict
-  pub named-at-1 : flagAt block 1 ≡ named verdict
-  pub address-at-2 : wordAt block 2 ≡ address verdict .0
-
-fields-say : (verdict : Verdict) (rest : List ℕ) → Says verdict (verdictFields verdict ++ rest)
-fields-say verdict rest =
-    record { number-at-0 = refl; named-at-1 = flag-there (named verdict); address-at-2 = word-there (address verdict .0) }
-
-pub verdict-there : (verdict : Verdict) (block : List ℕ) → length block ≡ 4 → Says verdict (verdictBytes verdict block)
-verdict-there verdict block same =
-    subst (Says verdict) (sym (at-length 4 (verdictFields verdict) block same)) (fields-say verdict (drop 4 block))

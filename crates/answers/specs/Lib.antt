@@ -1,3 +1,2 @@
 -- The layouts of the answer blocks, by their offsets.
 pub mod AnswerBlock
-pub mod ScreenBlock

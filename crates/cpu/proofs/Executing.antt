@@ -11,7 +11,7 @@ use Rattle.memory.specs.declared.Port.{Port}
 use Rattle.accesses.specs.Leads.{Leads}
 use Rattle.mirror.specs.Operands.{readOperand, writeOperand}
 use Rattle.mirror.specs.Mirror.{Made, compute, execRow}
-use Rattle.instruction.specs.Operand.{readable, writable}
+use Rattle.operands.specs.Operand.{readable, writable}
 use Rattle.mirror.specs.Runnable.{executable, runnable}
 use Rattle.opcodes.proofs.Tested.{and-left, and-right}
 use Rattle.accesses.proofs.Leading.{after}

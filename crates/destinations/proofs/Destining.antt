@@ -6,8 +6,8 @@ use Rattle.sm83.specs.declared.registers.CpuRegisters.{CpuRegisters}
 use Rattle.sm83.specs.declared.state.Cpu.{Cpu}
 use Rattle.sm83.specs.Basics.{lowByte}
 use Rattle.sm83.specs.State.{writeA, putBC, putDE, putHL, writeAF, writeBC, writeDE, writeHL, writeSP, onRegisters}
-use Rattle.instruction.specs.declared.operand.OperandType.{OperandType}
-use Rattle.instruction.specs.declared.operand.OperandType.the-variants as ot
+use Rattle.operands.specs.declared.operand.OperandType.{OperandType}
+use Rattle.operands.specs.declared.operand.OperandType.the-variants as ot
 use Rattle.definition.specs.Bus.{Ask, Operand}
 use Rattle.definition.specs.Step.{Ended}
 use Rattle.definition.specs.Execution.{store}

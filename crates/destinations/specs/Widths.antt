@@ -1,8 +1,8 @@
 -- How many bytes a register holds, 0 for what is no register; and a state with its port.
 use Prim.Native.Nat.{ℕ}
 use Rattle.sm83.specs.declared.state.Cpu.{Cpu}
-use Rattle.instruction.specs.declared.operand.OperandType.{OperandType}
-use Rattle.instruction.specs.declared.operand.OperandType.the-variants as ot
+use Rattle.operands.specs.declared.operand.OperandType.{OperandType}
+use Rattle.operands.specs.declared.operand.OperandType.the-variants as ot
 use Rattle.memory.specs.declared.Port.{Port}
 use Rattle.accesses.specs.declared.answers.Both.{Both}
 

@@ -5,8 +5,6 @@ ghost use Rattle.accesses.specs.Leads.{Leads};
 ghost use Rattle.mirror.specs.Mirror.{loadSPMade, loadHLMade, addSPMade, addHLMade, slowlyMade, pushMade, popMade};
 ghost use Rattle.results.specs.Worked.{madeBy, offsetBy};
 use accesses::answers::with_registers;
-use accesses::stack::stack_pop;
-use accesses::stack::stack_push;
 use alu16::add_signed8;
 use alu16::add16;
 use memory::Port;
@@ -16,6 +14,8 @@ use results::plain;
 use results::with_flags;
 use sm83::addr::Addr;
 use sm83::state::Cpu;
+use stack::stack_pop;
+use stack::stack_push;
 
 pub fn ld_sp_hl(cpu: Cpu, port: Port, mem: &mut [u8]) -> Worked
     requires { ⌜ length (now mem) ≡ 65536 ⌝ }

@@ -13,7 +13,7 @@ use Rattle.sm83.specs.Basics.{if_then_else_, lowByte, next, back, cleared, rais
 use Rattle.sm83.specs.State.{onRegisters, writeA, writeF, setF, setPC, setIme, setLatch, setStopped}
 use Rattle.opcodes.specs.Arithmetic.{Result, aluOp, accOp, shiftOp, increment, decrement, difference, bitTest}
 use Rattle.opcodes.specs.Instruction.{Alu, ADD, ADC, SUB, SBC, AND, XOR, OR, CP, Acc, RLCA, RRCA, RLA, RRA, DAA, CPL, SCF, CCF, Shift, RLC, RRC, RL, RR, SLA, SRA, SWAP, SRL}
-use Rattle.instruction.specs.declared.condition.Condition.{Condition}
+use Rattle.operands.specs.declared.condition.Condition.{Condition}
 use Rattle.instruction.specs.declared.opcode.Opcode.{Opcode}
 use Rattle.instruction.specs.declared.opcode.Opcode.the-variants as op
 use Rattle.flags.specs.declared.Computed.{Computed}

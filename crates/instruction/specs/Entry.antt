@@ -6,31 +6,17 @@ use lib.Dec.{ltb}
 use lib.ListN.{getD}
 use Rattle.sm83.specs.Basics.{if_then_else_}
 use Rattle.opcodes.specs.Instruction.{decode, decodeCB}
-use Rattle.instruction.specs.declared.operand.OperandType.{OperandType}
-use Rattle.instruction.specs.declared.operand.OperandType.the-variants as ot
-use Rattle.instruction.specs.declared.condition.Condition.{Condition}
-use Rattle.instruction.specs.declared.condition.Condition.the-variants as cn
+use Rattle.operands.specs.declared.operand.OperandType.{OperandType}
+use Rattle.operands.specs.declared.operand.OperandType.the-variants as ot
+use Rattle.operands.specs.declared.condition.Condition.{Condition}
+use Rattle.operands.specs.declared.condition.Condition.the-variants as cn
 use Rattle.instruction.specs.declared.opcode.Opcode.{Opcode}
 use Rattle.instruction.specs.declared.opcode.Opcode.the-variants as op
 use Rattle.instruction.specs.declared.instruction.Instruction.{Instruction}
+use Rattle.operands.specs.Numbered.{operandAt, conditionAt}
 use Rattle.instruction.specs.Row.{rowOf, prefixedRow}
 
 -- The last of each list stands for every number past it.
-
-abbrev pub operands : List OperandType
-operands =
-    ot.Implied ∷ ot.RegA ∷ ot.RegB ∷ ot.RegC ∷ ot.RegD ∷ ot.RegE ∷ ot.RegH ∷ ot.RegL ∷ ot.AddrHL ∷ ot.AddrHLDec ∷ ot.AddrHLInc ∷
-    ot.AddrBC ∷ ot.AddrDE ∷ ot.RegAF ∷ ot.RegBC ∷ ot.RegDE ∷ ot.RegHL ∷ ot.RegSP ∷ ot.Imm8 ∷ ot.Imm8Signed ∷ ot.Imm16 ∷ ot.HighAddr8 ∷
-    ot.HighAddrC ∷ ot.Addr16 ∷ []
-
-abbrev pub operandAt : ℕ → OperandType
-operandAt n = getD operands n ot.Addr16Val16
-
-abbrev pub conditions : List Condition
-conditions = cn.Unconditional ∷ cn.NZ ∷ cn.Z ∷ cn.NC ∷ []
-
-abbrev pub conditionAt : ℕ → Condition
-conditionAt n = getD conditions n cn.C
 
 abbrev pub opcodesUpToEi : Condition → ℕ → List Opcode
 opcodesUpToEi c b =

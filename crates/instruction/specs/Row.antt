@@ -1,11 +1,10 @@
 -- The row of 001's tables for each instruction of the definition: an operation, where its operand comes from and where its result goes.
 -- "An operand whose kind `exec_instruction` doesn't need is `Implied`."
-use mathlib.Core.Bool.{Bool, true}
 use Prim.Native.Nat.{ℕ}
-use Rattle.instruction.specs.declared.condition.Condition.{Condition}
-use Rattle.instruction.specs.declared.condition.Condition.the-variants as cn
-use Rattle.instruction.specs.declared.operand.OperandType.{OperandType}
-use Rattle.instruction.specs.declared.operand.OperandType.the-variants as ot
+use Rattle.operands.specs.declared.condition.Condition.{Condition}
+use Rattle.operands.specs.declared.condition.Condition.the-variants as cn
+use Rattle.operands.specs.declared.operand.OperandType.{OperandType}
+use Rattle.operands.specs.declared.operand.OperandType.the-variants as ot
 use Rattle.instruction.specs.declared.opcode.Opcode.{Opcode}
 use Rattle.instruction.specs.declared.opcode.Opcode.the-variants as op
 use Rattle.instruction.specs.declared.instruction.Instruction.{Instruction}
@@ -15,7 +14,6 @@ use Rattle.opcodes.specs.Instruction.{Work, NOP, DI, LD-r8-r8, LD-r8-n8, LD-r16
 use Rattle.opcodes.specs.Instruction.{Jump, JP-n16, JP-HL, JR-e8, CALL-n16, RET, RETI, JP-cc-n16, JR-cc-e8, CALL-cc-n16, RET-cc, RST-vec}
 use Rattle.opcodes.specs.Instruction.{does, goes, CB-prefix, HALT, STOP, EI, LD-B-B, ILLEGAL, Prefixed, SHIFT-r8, BIT-u3-r8, RES-u3-r8, SET-u3-r8}
 use Rattle.opcodes.specs.Instruction as defined
-use Rattle.opcodes.specs.Arithmetic.{holds}
 
 abbrev pub row : Opcode → OperandType → OperandType → Instruction
 row o dest src = record { opcode = o; src = src; dest = dest }
@@ -57,14 +55,6 @@ condition cNZ = cn.NZ
 condition cZ = cn.Z
 condition cNC = cn.NC
 condition cC = cn.C
-
--- `check_cond` of 000
-abbrev pub holdsFor : Condition → ℕ → Bool
-holdsFor cn.NC f = holds cNC f
-holdsFor cn.C f = holds cC f
-holdsFor cn.NZ f = holds cNZ f
-holdsFor cn.Z f = holds cZ f
-holdsFor cn.Unconditional f = true
 
 -- CP writes nothing
 abbrev pub aluRow : Alu → OperandType → Instruction

@@ -3,11 +3,11 @@ ghost use mathlib.Core.Path.{_≡_};
 ghost use Rattle.opcodes.specs.Instruction.{decode, decodeCB};
 ghost use Rattle.instruction.specs.Row.{rowOf, prefixedRow};
 ghost use Rattle.instruction.specs.Entry.{rowAt, Plain, Prefixed};
-use crate::condition::condition_of;
 use crate::opcode::Opcode;
 use crate::opcode::opcode_of;
-use crate::operand::OperandType;
-use crate::operand::operand_of;
+use operands::condition::condition_of;
+use operands::operand::OperandType;
+use operands::operand::operand_of;
 
 pub struct Instruction {
     pub opcode: Opcode,

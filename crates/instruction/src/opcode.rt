@@ -1,7 +1,7 @@
 // What an instruction does, and the numbers by which the tables name it.
 ghost use mathlib.Core.Path.{_≡_};
 ghost use Rattle.instruction.specs.Entry.{opcodeAt, opcodeUpToEi, opcodeFromCcf};
-use crate::condition::Condition;
+use operands::condition::Condition;
 
 pub enum Opcode {
     Nop,

@@ -11,7 +11,7 @@ use Rattle.definition.specs.Bus.{Ask}
 use Rattle.definition.specs.Step.{Ended}
 use Rattle.sm83.specs.State.{pc, setPC}
 use Rattle.definition.specs.Execution.{Does, _>>=_, _>>_, nothing, change, goTo, wait, push, pop, return}
-use Rattle.instruction.specs.declared.condition.Condition.{Condition}
+use Rattle.operands.specs.declared.condition.Condition.{Condition}
 use Rattle.memory.specs.declared.Port.{Port}
 use Rattle.memory.specs.World.{world, leads, counted}
 use Rattle.results.specs.declared.answers.Worked.{Worked}

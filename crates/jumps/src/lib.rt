@@ -11,17 +11,17 @@ ghost use Rattle.accesses.specs.Leads.{Leads};
 ghost use Rattle.mirror.specs.Mirror.{checkCond, isUnconditional, jpMade, jrMade, callMade, callIfMade, retMade, retIfMade, retiMade};
 ghost use Rattle.results.specs.Worked.{madeBy, worked};
 use accesses::answers::with_registers;
-use accesses::stack::stack_pop;
-use accesses::stack::stack_push;
-use instruction::condition::Condition;
 use memory::Port;
 use memory::idle;
+use operands::condition::Condition;
 use outcome::Outcome;
 use results::answers::Worked;
 use results::plain;
 use sm83::addr::Addr;
 use sm83::registers::CpuRegisters;
 use sm83::state::Cpu;
+use stack::stack_pop;
+use stack::stack_push;
 
 pub fn check_cond(cond: Condition, f: u8) -> bool
     ensures { λ r. ⌜ r ≡ checkCond cond f ⌝ }

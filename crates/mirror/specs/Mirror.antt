@@ -5,8 +5,8 @@ use lib.Dec.{eqb}
 use Rattle.outcome.specs.declared.Refusal.the-variants.{IllegalOpcode}
 use Rattle.outcome.specs.declared.Outcome.{Outcome}
 use Rattle.outcome.specs.declared.Outcome.the-variants.{Normal, InfiniteLoop, Breakpoint, Refused}
-use Rattle.instruction.specs.declared.condition.Condition.{Condition}
-use Rattle.instruction.specs.declared.condition.Condition.the-variants as cn
+use Rattle.operands.specs.declared.condition.Condition.{Condition}
+use Rattle.operands.specs.declared.condition.Condition.the-variants as cn
 use Rattle.instruction.specs.declared.opcode.Opcode.{Opcode}
 use Rattle.instruction.specs.declared.opcode.Opcode.the-variants as op
 use Rattle.instruction.specs.declared.instruction.Instruction.{Instruction}

@@ -5,7 +5,7 @@ use lib.Dec.{ltb}
 use Rattle.instruction.specs.declared.opcode.Opcode.{Opcode}
 use Rattle.instruction.specs.declared.opcode.Opcode.the-variants as op
 use Rattle.instruction.specs.declared.instruction.Instruction.{Instruction}
-use Rattle.instruction.specs.Operand.{readable, writable}
+use Rattle.operands.specs.Operand.{readable, writable}
 
 -- of each opcode: which of the three parts of the match of `exec_instruction` holds it, and the bit that it names; 8 for PREFIX, which is
 -- never executed

@@ -7,7 +7,7 @@ use outcome::Refusal;
 use outcome::Verdict;
 use shapes::window::clear;
 use sm83::addr::Addr;
-use walks::jumps::strays;
+use targets::strays;
 use walks::walk::walk;
 
 const LONGEST_WINDOW: usize = 4096;

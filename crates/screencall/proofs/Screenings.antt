@@ -9,7 +9,7 @@ use Rattle.outcome.specs.declared.Verdict.{Verdict}
 use Rattle.sm83.specs.Basics.{if_then_else_}
 use Rattle.outcome.specs.Numbers.{verdictNumber}
 use Rattle.routine.specs.Screen.{screen}
-use Rattle.answers.specs.ScreenBlock.{verdictBytes}
+use Rattle.verdicts.specs.ScreenBlock.{verdictBytes}
 use Rattle.screencall.specs.Screened.{leftByScreen, screenBlocks}
 
 module _ (memory : List ℕ) (first last : ℕ) (marks block : List ℕ) where

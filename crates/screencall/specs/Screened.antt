@@ -6,7 +6,7 @@ use lib.ListN.{length}
 use Rattle.sm83.specs.Basics.{if_then_else_}
 use Rattle.outcome.specs.Numbers.{verdictNumber}
 use Rattle.routine.specs.Screen.{Screened, screen}
-use Rattle.answers.specs.ScreenBlock.{verdictBytes}
+use Rattle.verdicts.specs.ScreenBlock.{verdictBytes}
 
 pub record LeftByScreen : Type 0 where
   pub number : ℕ

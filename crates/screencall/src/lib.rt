@@ -1,9 +1,9 @@
 // The screen on blocks of bytes: the document's number, or 255 if the answer block is malformed; then nothing is changed.
 ghost use mathlib.Core.Path.{_≡_};
 ghost use Rattle.screencall.specs.Screened.{leftByScreen, screenBlocks};
-use answers::screen::write_verdict;
 use screen::screen::screen;
 use sm83::addr::Addr;
+use verdicts::write_verdict;
 
 const MALFORMED: u8 = 255;
 

@@ -1,7 +1,5 @@
 -- Laws over plain variables that the functions' proofs cite.
-pub mod Targets
 pub mod Steps
 pub mod LastOne
 pub mod Reached
 pub mod Turn
-pub mod Scan

@@ -1,3 +1,2 @@
 // The screen's two passes over a window: its instructions in turn, then the targets of its jumps.
-pub mod jumps;
 pub mod walk;

@@ -1,0 +1,3 @@
+pub mod Operand
+pub mod Numbered
+pub mod Holding

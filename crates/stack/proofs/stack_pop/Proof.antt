@@ -1,0 +1,11 @@
+-- Shows a word popped, the low byte first: the callees' answers, by one law.
+use borrow.Author.Needs.{needs}
+use Rattle.accesses.proofs.Parts.{popped}
+use Rattle.stack.proofs.stack_pop.Statement.{statement}
+use Rattle.stack.proofs.stack_pop.Tie as tie
+
+returns : tie.Need-returns
+returns c = (popped _ _ _ _ _ _ _ _ _ _ _ _ (c .before .before .before .before .before .before .before .before .before .before .before .read .ensures .0) (c .before .before .before .before .before .before .before .before .before .before .before .read .ensures .1) (c .before .before .before .before .before .before .before .before .before .before .before .read .ensures .2) (c .before .before .before .before .before .before .before .wrapping-add .ensures) (c .before .before .before .before .before .read2 .ensures .0) (c .before .before .before .before .before .read2 .ensures .1) (c .before .before .before .before .before .read2 .ensures .2) (c .before .wrapping-add2 .ensures) (c .pair .ensures), c .before .before .before .before .before .read2 .ensures .3)
+
+pub stack-pop-spec : {M : Type 1} → statement M
+stack-pop-spec = tie.close (tie.spec (λ c κs. search needs) (λ c κs. search needs) (λ c κs. search needs) (λ c κs. search needs) (λ c κs. search needs) (λ c. search needs) returns)

@@ -1,0 +1,102 @@
+// 10: "JP or JR, conditional or not, to an unmarked address", "lowest jump first".
+ghost use mathlib.Core.Path.{_≡_};
+ghost use Prim.Native.Nat.{_+_, _%_};
+ghost use lib.ListN.{length};
+ghost use Rattle.sm83.specs.Basics.{word, signed, offset, next};
+ghost use Rattle.definition.specs.Bus.{byteAt};
+ghost use Rattle.routine.specs.Screen.{isMarked, landsWell};
+ghost use Rattle.walks.specs.Parts.{Inside, straysFrom};
+use outcome::Refusal;
+use outcome::Verdict;
+use shapes::class::Class;
+use shapes::window::address;
+use shapes::window::shape_at;
+use sm83::addr::Addr;
+use sm83::registers::pair;
+
+// A signed byte as a word.
+fn extended(e: u8) -> u16
+    ensures { λ r. ⌜ r ≡ signed e ⌝ }
+{
+    if e < 128 {
+        e as u16
+    } else {
+        (e as u16) + 0xff00
+    }
+}
+
+// The byte that stands `by` bytes further on, modulo 65,536.
+fn byte_after(mem: &[u8], at: Addr, by: u16) -> u8
+    requires { ⌜ length (now mem) ≡ 65536 ⌝ }
+    ensures { λ r. ⌜ r ≡ byteAt (now (mem .entry)) ((at .0 + by) % 65536) ⌝ }
+{
+    let there = at.wrapping_add(by);
+    let i = there.0 as usize;
+    mem[i]
+}
+
+// Where a JP at an address goes.
+fn absolute(mem: &[u8], at: Addr) -> Addr
+    requires { ⌜ length (now mem) ≡ 65536 ⌝ }
+    ensures { λ r. ⌜ r .0 ≡ word (byteAt (now (mem .entry)) (next (next (at .0)))) (byteAt (now (mem .entry)) (next (at .0))) ⌝ }
+{
+    let low = byte_after(mem, at, 1);
+    let high = byte_after(mem, at, 2);
+    Addr(pair(high, low))
+}
+
+// Where a JR at an address goes: "A JR target counts from the byte after the JR, modulo 65,536."
+fn relative(mem: &[u8], at: Addr) -> Addr
+    requires { ⌜ length (now mem) ≡ 65536 ⌝ }
+    ensures { λ r. ⌜ r .0 ≡ offset (at .0 + 2) (byteAt (now (mem .entry)) (next (at .0))) ⌝ }
+{
+    let after = at.wrapping_add(2);
+    after.wrapping_add(extended(byte_after(mem, at, 1)))
+}
+
+// No address outside the window is marked.
+fn is_marked(first: Addr, marks: &[u8], target: Addr) -> bool
+    ensures { λ r. ⌜ r ≡ isMarked (now (marks .entry)) (first .0) (target .0) ⌝ }
+{
+    if target.0 < first.0 {
+        return false;
+    }
+    let i = (target.0 - first.0) as usize;
+    if i < marks.len() {
+        marks[i] == 1
+    } else {
+        false
+    }
+}
+
+// The instruction at an address, if it is a JP or JR, goes to a marked address.
+fn lands(mem: &[u8], first: Addr, marks: &[u8], at: Addr) -> bool
+    requires { ⌜ length (now mem) ≡ 65536 ⌝ }
+    ensures { λ r. ⌜ r ≡ landsWell (now (mem .entry)) (isMarked (now (marks .entry)) (first .0)) (at .0) ⌝ }
+{
+    let shape = shape_at(mem, at);
+    let class = shape.1;
+    match class {
+        Class::Absolute | Class::AbsoluteIf => is_marked(first, marks, absolute(mem, at)),
+        Class::Relative | Class::RelativeIf => is_marked(first, marks, relative(mem, at)),
+        _ => true,
+    }
+}
+
+// The lowest marked address whose instruction jumps to an unmarked one.
+pub fn strays(mem: &[u8], first: Addr, marks: &[u8]) -> Verdict
+    requires { ⌜ Inside (now mem) (first .0) (length (now marks)) ⌝ }
+    ensures { λ r. ⌜ r ≡ straysFrom (now (mem .entry)) (first .0) (now (marks .entry)) 0 ⌝ }
+{
+    let mut i = 0;
+    while i < marks.len() {
+        if marks[i] == 1 {
+            let at = address(first, i);
+            if !lands(mem, first, marks, at) {
+                return Verdict::RefusedAt(Refusal::JumpUnmarked, at);
+            }
+        }
+        i += 1;
+    }
+    Verdict::Passes
+}

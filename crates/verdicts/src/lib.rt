@@ -1,0 +1,42 @@
+// The screen's answer block: 4 bytes.
+ghost use mathlib.Core.Path.{_≡_};
+ghost use Rattle.verdicts.specs.ScreenBlock.{named, address, verdictBytes};
+use fields::bytes::flag_byte;
+use fields::bytes::put_word;
+use outcome::Verdict;
+use sm83::addr::Addr;
+
+pub const VERDICT_LENGTH: usize = 4;
+
+fn named(verdict: Verdict) -> bool
+    ensures { λ r. ⌜ r ≡ named verdict ⌝ }
+{
+    match verdict {
+        Verdict::Passes => false,
+        Verdict::Refused(_) => false,
+        Verdict::RefusedAt(_, _) => true,
+    }
+}
+
+fn address(verdict: Verdict) -> Addr
+    ensures { λ r. ⌜ r ≡ address verdict ⌝ }
+{
+    match verdict {
+        Verdict::Passes => Addr(0),
+        Verdict::Refused(_) => Addr(0),
+        Verdict::RefusedAt(_, at) => at,
+    }
+}
+
+// A block of any other length is left alone.
+pub fn write_verdict(block: &mut [u8], verdict: Verdict)
+    ensures { λ _. ⌜ now (block .exit) ≡ verdictBytes verdict (now (block .entry)) ⌝ }
+{
+    if block.len() != VERDICT_LENGTH {
+        return;
+    }
+    let at = address(verdict);
+    block[0] = verdict.number();
+    block[1] = flag_byte(named(verdict));
+    put_word(block, 2, at.0);
+}
