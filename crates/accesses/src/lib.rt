@@ -1,4 +1,4 @@
-// A byte at PC, at an address and on the stack: `fetch_next_pc`, `stack_push` and `stack_pop` of the Rust, and what a part of an instruction answers.
+// A byte at PC and at an address, `fetch_next_pc` of the Rust, and what a part of an instruction answers.
 pub mod access;
 pub mod answers;
 pub mod fetch;

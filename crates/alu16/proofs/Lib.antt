@@ -1,1 +1,2 @@
+-- What is proved of sums of words besides the contracts.
 pub mod Signed

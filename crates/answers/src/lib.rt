@@ -1,2 +1,2 @@
-// A step's, a run's and a screen's answer as blocks of bytes with fixed offsets, on lent slices. Layouts: specs/.
+// A step's or a run's answer as a block of bytes with fixed offsets, on lent slices. Layout: specs/.
 pub mod answer;

@@ -1,3 +1,3 @@
-// Bitwise logic, single bits, rotations and shifts: no memory, no state. Each function is equal to the definition's (opcodes, specs/Arithmetic).
+// Bitwise logic and single bits: no memory, no state. Each function is equal to the definition's (opcodes, specs/Arithmetic). Rotations and shifts: `shifts`.
 pub mod bits;
 pub mod logic;

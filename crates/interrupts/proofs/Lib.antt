@@ -1,1 +1,2 @@
+-- What the callees of taking an interrupt ensure, put together.
 pub mod Taking

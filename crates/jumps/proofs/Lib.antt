@@ -1,1 +1,2 @@
+-- Laws over plain variables, each applied to what the callees of one function ensure.
 pub mod Jumping

@@ -1,1 +1,2 @@
+-- What a command line has said.
 pub mod Line

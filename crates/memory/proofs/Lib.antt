@@ -1,2 +1,2 @@
--- What the callees of taking an interrupt ensure, put together.
+-- What an access costs.
 pub mod Counted

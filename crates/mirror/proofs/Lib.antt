@@ -1,4 +1,4 @@
--- The rows of 001's tables lead where the definition leads.
+-- The rows of 001's tables lead where the definition leads; and what a `_` arm of a match is left with.
 pub mod Small
 pub mod Bridge8
 pub mod BridgeWork

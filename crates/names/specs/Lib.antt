@@ -1,1 +1,2 @@
+-- The words that the tool knows.
 pub mod Names

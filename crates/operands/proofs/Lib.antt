@@ -1,1 +1,2 @@
+-- What a match on a number leaves.
 pub mod Matched

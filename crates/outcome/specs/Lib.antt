@@ -1,1 +1,2 @@
+-- The document's numbers.
 pub mod Numbers

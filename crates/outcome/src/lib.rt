@@ -1,4 +1,4 @@
-// What the core answers: how a step ended, or why it was refused. The numbers are the document's.
+// What the core answers: how a step or a run ended, why it was refused, what the screen says. The numbers are the document's.
 ghost use mathlib.Core.Path.{_≡_};
 ghost use Rattle.outcome.specs.Numbers.{numberOf, outcomeNumber, lastNumber, verdictNumber};
 use sm83::addr::Addr;

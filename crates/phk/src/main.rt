@@ -1,5 +1,5 @@
-// The field tool: phk screen, run, step, version and help. What it says and the files that it reads and writes are in `tool`, what the command
-// line means in `command`; here the line is read and obeyed.
+// The field tool: phk screen, run, step, version and help. What it says and the files that it reads and writes are in `saying` and `sentences`,
+// the screen in `tool`, what the command line means in `command`; here the line is read and obeyed.
 mod machine;
 
 use command::take::finish;

@@ -1,1 +1,2 @@
+-- What an answer leads to.
 pub mod Ending

@@ -1,1 +1,2 @@
+-- What an operation answers.
 pub mod Worked

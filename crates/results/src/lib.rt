@@ -1,4 +1,4 @@
-// What comes of an operation: a value to be written, with flags or with none, or A and F at once.
+// What comes of an operation: a value to be written, with flags or with none, or A and F at once; STOP, DI, EI and the breakpoint.
 ghost use mathlib.Core.Path.{_≡_};
 ghost use mathlib.Core.Bool.{true, false};
 ghost use Rattle.outcome.specs.declared.Outcome.the-variants.{Normal, Breakpoint};

@@ -1,1 +1,2 @@
+-- What the function leaves, from what its callees answer.
 pub mod Screenings

@@ -1,2 +1,2 @@
-// Text on lent slices: bytes and numbers written one after the other.
+// Text on lent slices: bytes written one after the other. Numbers: the crate `digits`.
 pub mod page;

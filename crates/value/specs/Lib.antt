@@ -1,1 +1,2 @@
+-- What a word says as a value.
 pub mod Value

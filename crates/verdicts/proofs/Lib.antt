@@ -1,1 +1,2 @@
+-- What is proved of the screen's answer block.
 pub mod Says

@@ -1,1 +1,2 @@
+-- The layout of the screen's answer block.
 pub mod ScreenBlock

@@ -1,2 +1,2 @@
-// The screen's two passes over a window: its instructions in turn, then the targets of its jumps.
+// The screen's first pass over a window: its instructions in turn. The second, over the targets of its jumps: the crate `targets`.
 pub mod walk;

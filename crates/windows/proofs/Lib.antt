@@ -1,1 +1,2 @@
+-- The laws behind the comparison of one window.
 pub mod Windowed

@@ -1,1 +1,2 @@
+-- The rows, computed.
 pub mod AllRows
