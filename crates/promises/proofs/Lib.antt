@@ -1,2 +1,3 @@
--- Demand 3 over whatever satisfies the public contracts.
+-- Demand 3 over whatever satisfies the public contracts, and determinacy.
 pub mod CodeKeepsItsPlace
+pub mod OneAnswer
