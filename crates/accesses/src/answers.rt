@@ -1,9 +1,10 @@
 // What the parts of an instruction answer: the state and the port as they leave them, and a value.
 ghost use mathlib.Core.Path.{_≡_};
-ghost use Rattle.sm83.specs.State.{onRegisters};
+ghost use Rattle.sm83.specs.State.{onRegisters, setHalt};
 use memory::Port;
 use sm83::registers::CpuRegisters;
 use sm83::state::Cpu;
+use sm83::state::HaltMode;
 
 pub struct Val8 {
     pub cpu: Cpu,
@@ -42,6 +43,22 @@ pub fn with_registers(cpu: Cpu, registers: CpuRegisters) -> Cpu
         l: registers.l,
         pc: pc,
     };
+    Cpu {
+        registers: regs,
+        ime: cpu.ime,
+        latch: cpu.latch,
+        halt: halt,
+        stopped: cpu.stopped,
+        hdma: cpu.hdma,
+        dmg: cpu.dmg,
+    }
+}
+
+// The state in another halt mode.
+pub fn with_halt(cpu: Cpu, halt: HaltMode) -> Cpu
+    ensures { λ r. ⌜ r ≡ setHalt halt cpu ⌝ }
+{
+    let regs = cpu.registers;
     Cpu {
         registers: regs,
         ime: cpu.ime,

@@ -1,31 +1,16 @@
 // HALT.
 ghost use mathlib.Core.Path.{_≡_};
 ghost use lib.ListN.{length};
-ghost use Rattle.sm83.specs.State.{setHalt};
 ghost use Rattle.accesses.specs.Leads.{Leads};
 ghost use Rattle.mirror.specs.Mirror.{haltMade};
 ghost use Rattle.results.specs.Worked.{madeBy};
+use accesses::answers::with_halt;
 use interrupts::peek_next_interrupt;
 use memory::Port;
 use results::answers::Worked;
 use results::plain;
 use sm83::state::Cpu;
 use sm83::state::HaltMode;
-
-pub fn with_halt(cpu: Cpu, halt: HaltMode) -> Cpu
-    ensures { λ r. ⌜ r ≡ setHalt halt cpu ⌝ }
-{
-    let regs = cpu.registers;
-    Cpu {
-        registers: regs,
-        ime: cpu.ime,
-        latch: cpu.latch,
-        halt: halt,
-        stopped: cpu.stopped,
-        hdma: cpu.hdma,
-        dmg: cpu.dmg,
-    }
-}
 
 pub fn halt(cpu: Cpu, port: Port, mem: &mut [u8]) -> Worked
     requires { ⌜ length (now mem) ≡ 65536 ⌝ }

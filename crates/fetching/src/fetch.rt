@@ -6,12 +6,13 @@ ghost use Rattle.definition.specs.Step.{enabled};
 ghost use Rattle.instruction.specs.Entry.{rowAt, Plain, Prefixed};
 ghost use Rattle.mirror.specs.Runnable.{runnable};
 ghost use Rattle.stages.specs.Stages.{unbugged, Fetches};
+use accesses::answers::with_halt;
 use accesses::fetch::fetch_next_pc;
 use memory::Port;
 use sm83::addr::Addr;
 use sm83::state::Cpu;
+use sm83::state::HaltMode;
 use stages::halt::is_bug;
-use stages::halt::not_halting;
 
 // The table's entry for what is to be executed, the byte that it stands at, and from where it was fetched.
 pub struct Fetched {
@@ -43,7 +44,7 @@ pub fn unbug(cpu: Cpu, at: Addr) -> Cpu
         regs.pc = at;
         let mut c = cpu;
         c.registers = regs;
-        not_halting(c)
+        with_halt(c, HaltMode::NotHalting)
     } else {
         cpu
     }

@@ -16,7 +16,8 @@ use Rattle.memory.specs.declared.Port.{Port}
 use Rattle.memory.specs.World.{world, leads, counted}
 use Rattle.results.specs.declared.answers.Worked.{Worked}
 use Rattle.accesses.specs.Leads.{Leads}
-use Rattle.mirror.specs.Mirror.{Made, made, checkCond, isUnconditional, jumpMade, onlyIfMade, callMade, retMade, retIfMade}
+use Rattle.operands.specs.Holding.{checkCond, isUnconditional}
+use Rattle.mirror.specs.Mirror.{Made, made, jumpMade, onlyIfMade, callMade, retMade, retIfMade}
 use Rattle.results.specs.Worked.{madeBy, worked}
 use Rattle.accesses.proofs.Leading.{after, along}
 use Rattle.results.proofs.Ending.{ending}

@@ -8,46 +8,21 @@ ghost use Rattle.sm83.specs.Basics.{if_then_else_};
 ghost use Rattle.sm83.specs.State.{setPC};
 ghost use Rattle.memory.specs.World.{counted};
 ghost use Rattle.accesses.specs.Leads.{Leads};
-ghost use Rattle.mirror.specs.Mirror.{checkCond, isUnconditional, jpMade, jrMade, callMade, callIfMade, retMade, retIfMade, retiMade};
+ghost use Rattle.mirror.specs.Mirror.{jpMade, jrMade, callMade, callIfMade, retMade, retIfMade, retiMade};
 ghost use Rattle.results.specs.Worked.{madeBy, worked};
 use accesses::answers::with_registers;
 use memory::Port;
 use memory::idle;
 use operands::condition::Condition;
+use operands::condition::check_cond;
+use operands::condition::is_unconditional;
 use outcome::Outcome;
 use results::answers::Worked;
 use results::plain;
 use sm83::addr::Addr;
-use sm83::registers::CpuRegisters;
 use sm83::state::Cpu;
 use stack::stack_pop;
 use stack::stack_push;
-
-pub fn check_cond(cond: Condition, f: u8) -> bool
-    ensures { λ r. ⌜ r ≡ checkCond cond f ⌝ }
-{
-    let c = f / CpuRegisters::C % 2 == 1;
-    let z = f / CpuRegisters::Z % 2 == 1;
-    match cond {
-        Condition::NC => !c,
-        Condition::C => c,
-        Condition::NZ => !z,
-        Condition::Z => z,
-        Condition::Unconditional => true,
-    }
-}
-
-pub fn is_unconditional(cond: Condition) -> bool
-    ensures { λ r. ⌜ r ≡ isUnconditional cond ⌝ }
-{
-    match cond {
-        Condition::NC => false,
-        Condition::C => false,
-        Condition::NZ => false,
-        Condition::Z => false,
-        Condition::Unconditional => true,
-    }
-}
 
 // PC is the target; the outcome says whether a sure jump is to its own start.
 pub fn jump(cpu: Cpu, port: Port, to: u16, at: Addr, sure: bool) -> Worked

@@ -15,7 +15,8 @@ use Rattle.definition.specs.Step.{Ended}
 use Rattle.instruction.specs.Row.{condition, jumpRow}
 use Rattle.memory.specs.declared.Port.{Port}
 use Rattle.memory.specs.World.{World, world, leads}
-use Rattle.mirror.specs.Mirror.{checkCond, isUnconditional, Made, execRow, mirroring}
+use Rattle.operands.specs.Holding.{checkCond, isUnconditional}
+use Rattle.mirror.specs.Mirror.{Made, execRow, mirroring}
 
 same-test : (c : Cond) (f : ℕ) → checkCond (condition c) f ≡ holds c f
 unfolding mirroring

@@ -1,38 +1,22 @@
 -- What `exec_instruction` of 000 does, as accesses in order. This is the code's own shape, and no part of what a reader must believe: it is proved to lead where the definition leads.
-use mathlib.Core.Bool.{Bool, true, false, not, _&&_}
+use mathlib.Core.Bool.{Bool, true, false, _&&_}
 use Prim.Native.Nat.{ℕ, _+_, _%_}
 use lib.Dec.{eqb}
 use Rattle.outcome.specs.declared.Refusal.the-variants.{IllegalOpcode}
 use Rattle.outcome.specs.declared.Outcome.{Outcome}
 use Rattle.outcome.specs.declared.Outcome.the-variants.{Normal, InfiniteLoop, Breakpoint, Refused}
 use Rattle.operands.specs.declared.condition.Condition.{Condition}
-use Rattle.operands.specs.declared.condition.Condition.the-variants as cn
+use Rattle.operands.specs.Holding.{checkCond, isUnconditional}
 use Rattle.instruction.specs.declared.opcode.Opcode.{Opcode}
 use Rattle.instruction.specs.declared.opcode.Opcode.the-variants as op
 use Rattle.instruction.specs.declared.instruction.Instruction.{Instruction}
 use Rattle.sm83.specs.Basics.{if_then_else_, cleared, raised, lowByte, highByte, next, back, signed}
 use Rattle.definition.specs.Bus.{Operand}
 use Rattle.sm83.specs.State.{pairAF, pairBC, pairDE, pairHL, writeA, writeF, writeSP, putBC, putDE, putHL, writeBC, writeDE, writeHL, writeAF, setF, sp, setPC, setIme, setLatch, setStopped}
-use Rattle.sm83.specs.Flags.{flagZ, flagC}
 use Rattle.opcodes.specs.Arithmetic.{Result, aluOp, accOp, shiftOp, increment, decrement, bitTest, wordSumFlags, offsetFlags}
 use Rattle.opcodes.specs.Instruction.{Alu, ADD, ADC, SUB, SBC, AND, XOR, OR, CP, Acc, RLCA, RRCA, RLA, RRA, DAA, CPL, SCF, CCF, Shift, RLC, RRC, RL, RR, SLA, SRA, SWAP, SRL}
 use Rattle.mirror.specs.Operands.{readOperand, writeOperand}
 use Rattle.definition.specs.Execution.{Does, _>>=_, _>>_, give, nothing, change, reg, setReg, regA, regC, regF, regSP, regPC, regHL, load, store, wait, imm8, imm16, push, pop, high, halt, goTo, call, return}
-
--- `check_cond`
-unfoldable pub checkCond : Condition → ℕ → Bool
-checkCond cn.NC f = not (flagC f)
-checkCond cn.C f = flagC f
-checkCond cn.NZ f = not (flagZ f)
-checkCond cn.Z f = flagZ f
-checkCond cn.Unconditional f = true
-
-unfoldable pub isUnconditional : Condition → Bool
-isUnconditional cn.NC = false
-isUnconditional cn.C = false
-isUnconditional cn.NZ = false
-isUnconditional cn.Z = false
-isUnconditional cn.Unconditional = true
 
 -- what the match of `exec_instruction` makes: the value to be written, and the outcome
 pub record Made : Type 0 where

@@ -1,15 +1,21 @@
 -- When a condition holds, by F.
-use mathlib.Core.Bool.{Bool, true}
+use mathlib.Core.Bool.{Bool, true, false, not}
 use Prim.Native.Nat.{ℕ}
-use Rattle.opcodes.specs.Instruction.{cNZ, cZ, cNC, cC}
-use Rattle.opcodes.specs.Arithmetic.{holds}
+use Rattle.sm83.specs.Flags.{flagZ, flagC}
 use Rattle.operands.specs.declared.condition.Condition.{Condition}
 use Rattle.operands.specs.declared.condition.Condition.the-variants as cn
 
 -- `check_cond` of 000
-abbrev pub holdsFor : Condition → ℕ → Bool
-holdsFor cn.NC f = holds cNC f
-holdsFor cn.C f = holds cC f
-holdsFor cn.NZ f = holds cNZ f
-holdsFor cn.Z f = holds cZ f
-holdsFor cn.Unconditional f = true
+unfoldable pub checkCond : Condition → ℕ → Bool
+checkCond cn.NC f = not (flagC f)
+checkCond cn.C f = flagC f
+checkCond cn.NZ f = not (flagZ f)
+checkCond cn.Z f = flagZ f
+checkCond cn.Unconditional f = true
+
+unfoldable pub isUnconditional : Condition → Bool
+isUnconditional cn.NC = false
+isUnconditional cn.C = false
+isUnconditional cn.NZ = false
+isUnconditional cn.Z = false
+isUnconditional cn.Unconditional = true

@@ -1,6 +1,6 @@
 // When a jump is taken, and the numbers by which the tables name it.
 ghost use mathlib.Core.Path.{_≡_};
-ghost use Rattle.operands.specs.Holding.{holdsFor};
+ghost use Rattle.operands.specs.Holding.{checkCond, isUnconditional};
 ghost use Rattle.operands.specs.Numbered.{conditionAt};
 use sm83::registers::CpuRegisters;
 
@@ -12,21 +12,29 @@ pub enum Condition {
     Unconditional,
 }
 
-impl Condition {
-    // `check_cond` of 000, on F.
-    pub fn check(self, flags: u8) -> bool
-        ensures { λ r. ⌜ r ≡ holdsFor self flags ⌝ }
-    {
-        let condition = self;
-        let c = flags / CpuRegisters::C % 2 == 1;
-        let z = flags / CpuRegisters::Z % 2 == 1;
-        match condition {
-            Condition::NC => !c,
-            Condition::C => c,
-            Condition::NZ => !z,
-            Condition::Z => z,
-            Condition::Unconditional => true,
-        }
+pub fn check_cond(cond: Condition, f: u8) -> bool
+    ensures { λ r. ⌜ r ≡ checkCond cond f ⌝ }
+{
+    let c = f / CpuRegisters::C % 2 == 1;
+    let z = f / CpuRegisters::Z % 2 == 1;
+    match cond {
+        Condition::NC => !c,
+        Condition::C => c,
+        Condition::NZ => !z,
+        Condition::Z => z,
+        Condition::Unconditional => true,
+    }
+}
+
+pub fn is_unconditional(cond: Condition) -> bool
+    ensures { λ r. ⌜ r ≡ isUnconditional cond ⌝ }
+{
+    match cond {
+        Condition::NC => false,
+        Condition::C => false,
+        Condition::NZ => false,
+        Condition::Z => false,
+        Condition::Unconditional => true,
     }
 }
 

@@ -1,5 +1,7 @@
 // Where an operand comes from.
 ghost use mathlib.Core.Path.{_≡_};
+ghost use mathlib.Core.List.{List};
+ghost use Prim.Native.Nat.{ℕ};
 ghost use lib.Dec.{T};
 ghost use lib.ListN.{length};
 ghost use Rattle.definition.specs.Execution.{imm8, give};
@@ -101,10 +103,9 @@ fn read_at16(cpu: Cpu, port: Port, mem: &mut [u8]) -> Val16
     load(s, p, Addr(x.value), mem)
 }
 
-// A value that is at hand: no access.
-fn held(cpu: Cpu, port: Port, value: u16, mem: &mut [u8]) -> Val16
-    requires { ⌜ length (now mem) ≡ 65536 ⌝ }
-    ensures { λ r. ⌜ Leads (give value) cpu port (now (mem .entry)) (r .value) (r .cpu) (r .port) (now (mem .exit)) × (length (now (mem .exit)) ≡ 65536) ⌝ }
+// A value that is at hand: no access, whatever memory holds.
+fn held(cpu: Cpu, port: Port, value: u16) -> Val16
+    ensures { λ r. ⌜ ((m : List ℕ) → Leads (give value) cpu port m (r .value) (r .cpu) (r .port) m) ⌝ }
 {
     Val16 {
         cpu: cpu,
@@ -132,23 +133,23 @@ pub fn read_operand(cpu: Cpu, port: Port, ty: OperandType, mem: &mut [u8]) -> Va
 {
     let regs = cpu.registers;
     match ty {
-        OperandType::RegA => held(cpu, port, regs.a as u16, mem),
-        OperandType::RegB => held(cpu, port, regs.b as u16, mem),
-        OperandType::RegC => held(cpu, port, regs.c as u16, mem),
-        OperandType::RegD => held(cpu, port, regs.d as u16, mem),
-        OperandType::RegE => held(cpu, port, regs.e as u16, mem),
-        OperandType::RegH => held(cpu, port, regs.h as u16, mem),
-        OperandType::RegL => held(cpu, port, regs.l as u16, mem),
+        OperandType::RegA => held(cpu, port, regs.a as u16),
+        OperandType::RegB => held(cpu, port, regs.b as u16),
+        OperandType::RegC => held(cpu, port, regs.c as u16),
+        OperandType::RegD => held(cpu, port, regs.d as u16),
+        OperandType::RegE => held(cpu, port, regs.e as u16),
+        OperandType::RegH => held(cpu, port, regs.h as u16),
+        OperandType::RegL => held(cpu, port, regs.l as u16),
         OperandType::AddrHL => load(cpu, port, Addr(regs.reg_hl_read()), mem),
         OperandType::AddrHLDec => read_hl_dec(cpu, port, mem),
         OperandType::AddrHLInc => read_hl_inc(cpu, port, mem),
         OperandType::AddrBC => load(cpu, port, Addr(regs.reg_bc_read()), mem),
         OperandType::AddrDE => load(cpu, port, Addr(regs.reg_de_read()), mem),
-        OperandType::RegAF => held(cpu, port, regs.reg_af_read(), mem),
-        OperandType::RegBC => held(cpu, port, regs.reg_bc_read(), mem),
-        OperandType::RegDE => held(cpu, port, regs.reg_de_read(), mem),
-        OperandType::RegHL => held(cpu, port, regs.reg_hl_read(), mem),
-        OperandType::RegSP => held(cpu, port, regs.sp.0, mem),
+        OperandType::RegAF => held(cpu, port, regs.reg_af_read()),
+        OperandType::RegBC => held(cpu, port, regs.reg_bc_read()),
+        OperandType::RegDE => held(cpu, port, regs.reg_de_read()),
+        OperandType::RegHL => held(cpu, port, regs.reg_hl_read()),
+        OperandType::RegSP => held(cpu, port, regs.sp.0),
         OperandType::Imm8 => read_imm8(cpu, port, mem),
         OperandType::Imm8Signed => read_signed(cpu, port, mem),
         OperandType::Imm16 => fetch16(cpu, port, mem),
@@ -156,6 +157,6 @@ pub fn read_operand(cpu: Cpu, port: Port, ty: OperandType, mem: &mut [u8]) -> Va
         OperandType::HighAddrC => load(cpu, port, high(regs.c), mem),
         OperandType::Addr16 => read_at16(cpu, port, mem),
         OperandType::Addr16Val16 => never_read(cpu, port),
-        OperandType::Implied => held(cpu, port, 0, mem),
+        OperandType::Implied => held(cpu, port, 0),
     }
 }

@@ -2,10 +2,9 @@
 ghost use mathlib.Core.Path.{_≡_};
 ghost use mathlib.Core.Bool.{true};
 ghost use lib.ListN.{length};
-ghost use Rattle.sm83.specs.State.{setHalt};
-ghost use Rattle.sm83.specs.declared.state.HaltMode.the-variants.{NotHalting};
 ghost use Rattle.definition.specs.Step.{isBug, isAsleep};
 ghost use Rattle.stages.specs.Stages.{Wakes};
+use accesses::answers::with_halt;
 use interrupts::peek_next_interrupt;
 use memory::Port;
 use sm83::state::Cpu;
@@ -15,21 +14,6 @@ pub struct Woken {
     pub cpu: Cpu,
     pub port: Port,
     pub halting: bool,
-}
-
-pub fn not_halting(cpu: Cpu) -> Cpu
-    ensures { λ r. ⌜ r ≡ setHalt NotHalting cpu ⌝ }
-{
-    let regs = cpu.registers;
-    Cpu {
-        registers: regs,
-        ime: cpu.ime,
-        latch: cpu.latch,
-        halt: HaltMode::NotHalting,
-        stopped: cpu.stopped,
-        hdma: cpu.hdma,
-        dmg: cpu.dmg,
-    }
 }
 
 pub fn is_bug(halt: HaltMode) -> bool
@@ -64,7 +48,7 @@ fn rest(cpu: Cpu, port: Port, mem: &mut [u8]) -> Woken
     let interrupt = peek_next_interrupt(mem);
     let some = interrupt < 5;
     if some {
-        let s = not_halting(cpu);
+        let s = with_halt(cpu, HaltMode::NotHalting);
         let dmg = cpu.dmg;
         if dmg {
             Woken {

@@ -5,7 +5,7 @@ use Rattle.sources.proofs.held.Statement.{statement}
 use Rattle.sources.proofs.held.Tie as tie
 
 returns : tie.Need-returns
-returns c = (giving _ _ _ _ _ refl, c .pre)
+returns c m = giving _ _ _ _ _ refl
 
 pub held-spec : {M : Type 1} → statement M
 held-spec = tie.close (tie.spec returns)

@@ -1,8 +1,8 @@
 -- Shows each condition by its flag.
 use borrow.Author.Needs.{needs}
-use Rattle.mirror.specs.Mirror.{checkCond}
-use Rattle.jumps.proofs.check_cond.Statement.{statement}
-use Rattle.jumps.proofs.check_cond.Tie as tie
+use Rattle.operands.specs.Holding.{checkCond}
+use Rattle.operands.proofs.condition.check_cond.Statement.{statement}
+use Rattle.operands.proofs.condition.check_cond.Tie as tie
 
 pub check-cond-spec : {M : Type 1} → statement M
 unfolding checkCond

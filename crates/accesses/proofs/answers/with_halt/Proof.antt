@@ -1,8 +1,8 @@
 -- Shows the state in another halt mode.
 use borrow.Author.Needs.{needs}
 use mathlib.Core.Path.{refl}
-use Rattle.effects.proofs.halt.with_halt.Statement.{statement}
-use Rattle.effects.proofs.halt.with_halt.Tie as tie
+use Rattle.accesses.proofs.answers.with_halt.Statement.{statement}
+use Rattle.accesses.proofs.answers.with_halt.Tie as tie
 
 returns : tie.Need-returns
 returns c = refl

@@ -1,8 +1,8 @@
 -- Shows which condition is none.
 use borrow.Author.Needs.{needs}
-use Rattle.mirror.specs.Mirror.{isUnconditional}
-use Rattle.jumps.proofs.is_unconditional.Statement.{statement}
-use Rattle.jumps.proofs.is_unconditional.Tie as tie
+use Rattle.operands.specs.Holding.{isUnconditional}
+use Rattle.operands.proofs.condition.is_unconditional.Statement.{statement}
+use Rattle.operands.proofs.condition.is_unconditional.Tie as tie
 
 pub is-unconditional-spec : {M : Type 1} → statement M
 unfolding isUnconditional

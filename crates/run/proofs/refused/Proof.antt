@@ -1,0 +1,6 @@
+-- Shows the answer of a run that is refused, by search.
+use Rattle.run.proofs.refused.Statement.{statement}
+use Rattle.run.proofs.refused.Tie as tie
+
+pub refused-spec : {M : Type 1} → statement M
+refused-spec = tie.close (tie.spec (λ c. search needs))
