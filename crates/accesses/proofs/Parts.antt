@@ -3,10 +3,10 @@ use mathlib.Core.Path.{_≡_, refl, ap, sym, _∙_}
 use mathlib.Core.List.{List}
 use Prim.Native.Nat.{ℕ, _+_, _*_, _%_}
 use lib.ListN.{set}
-use Rattle.sm83.specs.declared.state.Cpu.{Cpu}
+use Rattle.sm83.specs.declared.Cpu.{Cpu}
 use Rattle.sm83.specs.Basics.{next, back, word, highByte, lowByte}
 use Rattle.definition.specs.Bus.{Operand, byteAt}
-use Rattle.sm83.specs.declared.registers.CpuRegisters.{CpuRegisters}
+use Rattle.sm83.specs.declared.CpuRegisters.{CpuRegisters}
 use Rattle.sm83.specs.State.{pc, sp, setPC, setSP, pairHL, writeHL, onRegisters}
 use Rattle.definition.specs.Execution.{_>>=_, _>>_, give, setReg, regHL, imm8, imm16, load, store, wait, push, pop}
 use Rattle.memory.specs.declared.Port.{Port}

@@ -4,11 +4,11 @@ ghost use lib.ListN.{length};
 ghost use Rattle.definition.specs.Bus.{Operand};
 ghost use Rattle.definition.specs.Execution.{load, store, high};
 ghost use Rattle.accesses.specs.Leads.{Leads};
-use crate::answers::Both;
-use crate::answers::Val16;
+use crate::Both;
+use crate::Val16;
 use memory::Port;
-use sm83::addr::Addr;
-use sm83::state::Cpu;
+use sm83::Addr;
+use sm83::Cpu;
 
 // The byte at an address, as a word.
 pub fn load(cpu: Cpu, port: Port, a: Addr, mem: &mut [u8]) -> Val16

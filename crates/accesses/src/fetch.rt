@@ -3,11 +3,11 @@ ghost use mathlib.Core.Path.{_≡_};
 ghost use lib.ListN.{length};
 ghost use Rattle.definition.specs.Execution.{imm8, imm16};
 ghost use Rattle.accesses.specs.Leads.{Leads};
-use crate::answers::Val8;
-use crate::answers::Val16;
+use crate::Val8;
+use crate::Val16;
 use memory::Port;
+use sm83::Cpu;
 use sm83::registers::pair;
-use sm83::state::Cpu;
 
 pub fn fetch_next_pc(cpu: Cpu, port: Port, mem: &mut [u8]) -> Val8
     requires { ⌜ length (now mem) ≡ 65536 ⌝ }

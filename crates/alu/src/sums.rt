@@ -6,7 +6,7 @@ ghost use Rattle.flags.specs.Computed.{computed};
 use flags::Computed;
 use flags::bit_of;
 use flags::flagged;
-use sm83::registers::CpuRegisters;
+use sm83::CpuRegisters;
 
 pub fn inc(x: u8, f: u8) -> Computed
     ensures { λ r. ⌜ r ≡ computed (increment x f) ⌝ }

@@ -5,7 +5,7 @@ ghost use Rattle.sm83.specs.Basics.{signed, lowByte};
 ghost use Rattle.opcodes.specs.Arithmetic.{wordSumFlags, offsetFlags};
 ghost use Rattle.alu16.specs.Words.{wordWith};
 use flags::flag_byte;
-use sm83::registers::CpuRegisters;
+use sm83::CpuRegisters;
 
 pub struct ComputedWord {
     pub value: u16,

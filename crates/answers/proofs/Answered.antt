@@ -5,8 +5,8 @@ use Prim.Native.Nat.{ℕ}
 use native.Mathlib.Omega.{arith}
 use lib.ListN.{length}
 use lib.Seq.{sets}
-use Rattle.sm83.specs.declared.addr.MCycles.{MCycles}
-use Rattle.sm83.specs.declared.registers.CpuRegisters.{CpuRegisters}
+use Rattle.sm83.specs.declared.MCycles.{MCycles}
+use Rattle.sm83.specs.declared.CpuRegisters.{CpuRegisters}
 use Rattle.outcome.specs.declared.LastOutcome.{LastOutcome}
 use Rattle.outcome.specs.Numbers.{lastNumber}
 use Rattle.fields.specs.Bytes.{wordBytes, countBytes}

@@ -3,7 +3,7 @@ use mathlib.Core.Path.{_≡_, refl, sym, subst}
 use mathlib.Core.List.{List, [], _∷_, _++_}
 use Prim.Native.Nat.{ℕ}
 use lib.ListN.{length, take, drop}
-use Rattle.sm83.specs.declared.addr.MCycles.{MCycles}
+use Rattle.sm83.specs.declared.MCycles.{MCycles}
 use Rattle.outcome.specs.declared.LastOutcome.{LastOutcome}
 use Rattle.outcome.specs.Numbers.{lastNumber}
 use Rattle.fields.specs.Bytes.{wordAt, countAt}

@@ -2,8 +2,8 @@
 -- 8-19 the registers that a Breakpoint shows, as bytes 0-11 of a state block, and 0 otherwise, 20-23 0.
 use mathlib.Core.List.{List, [], _∷_, _++_}
 use Prim.Native.Nat.{ℕ}
-use Rattle.sm83.specs.declared.addr.MCycles.{MCycles}
-use Rattle.sm83.specs.declared.registers.CpuRegisters.{CpuRegisters}
+use Rattle.sm83.specs.declared.MCycles.{MCycles}
+use Rattle.sm83.specs.declared.CpuRegisters.{CpuRegisters}
 use Rattle.outcome.specs.declared.Outcome.{Outcome}
 use Rattle.outcome.specs.declared.Outcome.the-variants.{Normal, InfiniteLoop, Halting, RunningHDMA, Stopped, RunningInterrupt, Breakpoint, Refused}
 use Rattle.outcome.specs.declared.LastOutcome.{LastOutcome}

@@ -6,8 +6,8 @@ use fields::bytes::put_registers;
 use fields::bytes::put_word;
 use outcome::LastOutcome;
 use outcome::Outcome;
-use sm83::addr::MCycles;
-use sm83::registers::CpuRegisters;
+use sm83::CpuRegisters;
+use sm83::MCycles;
 
 pub const ANSWER_LENGTH: usize = 24;
 

@@ -4,7 +4,7 @@ ghost use Prim.Native.Nat.{_%_};
 ghost use Rattle.sm83.specs.Basics.{cleared, raised};
 ghost use Rattle.opcodes.specs.Arithmetic.{bitTest};
 use flags::flag_byte;
-use sm83::registers::CpuRegisters;
+use sm83::CpuRegisters;
 
 // The flags that BIT leaves.
 pub fn bit(n: u8, x: u8, f: u8) -> u8

@@ -7,7 +7,7 @@ ghost use Rattle.opcodes.specs.Arithmetic.{logical, accOp};
 ghost use Rattle.flags.specs.Computed.{computed};
 use flags::Computed;
 use flags::flagged;
-use sm83::registers::CpuRegisters;
+use sm83::CpuRegisters;
 
 pub fn and(a: u8, x: u8) -> Computed
     ensures { λ r. ⌜ r ≡ computed (logical (bitAnd a x) true) ⌝ }

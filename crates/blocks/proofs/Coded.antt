@@ -4,8 +4,8 @@ use mathlib.Core.Bool.{Bool, true, false}
 use Prim.Native.Nat.{ℕ, zero, suc, _+_, _*_, _/_, _%_, _<_, _≤_}
 use native.Mathlib.Omega.{arith}
 use lib.Dec.{eqb, leb}
-use Rattle.sm83.specs.declared.state.HaltMode.{HaltMode}
-use Rattle.sm83.specs.declared.state.HaltMode.the-variants.{NotHalting, HaltRunInterrupt, HaltNoRunInterrupt, HaltBug}
+use Rattle.sm83.specs.declared.HaltMode.{HaltMode}
+use Rattle.sm83.specs.declared.HaltMode.the-variants.{NotHalting, HaltRunInterrupt, HaltNoRunInterrupt, HaltBug}
 use Rattle.sm83.specs.Basics.{bit, word, highByte, lowByte}
 use Rattle.blocks.specs.StateBlock.{haltNumber, haltAt, isFlag}
 

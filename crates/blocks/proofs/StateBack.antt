@@ -4,7 +4,7 @@ use mathlib.Core.List.{List, _++_}
 use Prim.Native.Nat.{ℕ}
 use native.Mathlib.Omega.{arith}
 use lib.ListN.{length, drop}
-use Rattle.sm83.specs.declared.state.Cpu.{Cpu}
+use Rattle.sm83.specs.declared.Cpu.{Cpu}
 use Rattle.definition.specs.Bus.{byteAt}
 use Rattle.definition.proofs.Ranges.{Bytes}
 use Rattle.blocks.specs.declared.state.StateRead.the-variants.{State}

@@ -5,7 +5,7 @@ use Prim.Native.Nat.{ℕ}
 use native.Mathlib.Omega.{arith}
 use lib.ListN.{length, drop, length-drop}
 use borrow.Author.Tests.{eq-eqb}
-use Rattle.sm83.specs.declared.state.Cpu.{Cpu}
+use Rattle.sm83.specs.declared.Cpu.{Cpu}
 use Rattle.blocks.specs.declared.state.StateRead.the-variants.{State}
 use Rattle.blocks.specs.StateBlock.{stateFields, stateBytes, stateOf}
 use Rattle.blocks.proofs.Coded.{word-there, flag-there, flag-well, halt-there, halt-well}

@@ -6,7 +6,7 @@ use Prim.Native.Nat.{ℕ, _≤_}
 use native.Mathlib.Omega.{arith}
 use lib.ListN.{length}
 use borrow.Author.Tests.{eq-eqb, le-leb, eqb-true, leb-true}
-use Rattle.sm83.specs.declared.state.Cpu.{Cpu}
+use Rattle.sm83.specs.declared.Cpu.{Cpu}
 use Rattle.sm83.specs.Basics.{if_then_else_}
 use Rattle.definition.specs.Bus.{byteAt}
 use Rattle.blocks.specs.declared.state.StateRead.the-variants.{State, Malformed}

@@ -6,8 +6,8 @@ ghost use Rattle.blocks.specs.StateBlock.{haltNumber, haltAt, flagsWellF
 use fields::bytes::flag_byte;
 use fields::bytes::front_registers;
 use fields::bytes::put_registers;
-use sm83::state::Cpu;
-use sm83::state::HaltMode;
+use sm83::Cpu;
+use sm83::HaltMode;
 
 pub const STATE_LENGTH: usize = 24;
 

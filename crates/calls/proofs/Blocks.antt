@@ -6,7 +6,7 @@ use Prim.Native.Nat.{ℕ}
 use lib.Dec.{eqb}
 use lib.ListN.{length}
 use borrow.Author.Tests.{eq-eqb, ne-eqb}
-use Rattle.sm83.specs.declared.state.Cpu.{Cpu}
+use Rattle.sm83.specs.declared.Cpu.{Cpu}
 use Rattle.sm83.specs.Basics.{if_then_else_}
 use Rattle.definition.specs.Bus.{plain}
 use Rattle.outcome.specs.Numbers.{lastNumber}

@@ -4,8 +4,8 @@ use mathlib.Core.List.{List}
 use Prim.Native.Nat.{ℕ}
 use lib.Dec.{eqb}
 use lib.ListN.{length}
-use Rattle.sm83.specs.declared.addr.MCycles.{MCycles}
-use Rattle.sm83.specs.declared.state.Cpu.{Cpu}
+use Rattle.sm83.specs.declared.MCycles.{MCycles}
+use Rattle.sm83.specs.declared.Cpu.{Cpu}
 use Rattle.sm83.specs.Basics.{if_then_else_}
 use Rattle.definition.specs.Bus.{plain}
 use Rattle.outcome.specs.Numbers.{lastNumber}

@@ -9,9 +9,9 @@ use line::STATE;
 use line::ZERO;
 use outcome::LastOutcome;
 use saying::file::number;
-use sm83::addr::Addr;
-use sm83::registers::CpuRegisters;
-use sm83::state::Cpu;
+use sm83::Addr;
+use sm83::Cpu;
+use sm83::CpuRegisters;
 
 // How far a run has come.
 pub struct Far {

@@ -4,9 +4,9 @@ use mathlib.Core.Path.{_≡_, refl}
 use mathlib.Core.List.{List}
 use Prim.Native.Nat.{ℕ}
 use lib.Dec.{T}
-use Rattle.sm83.specs.declared.state.Cpu.{Cpu}
+use Rattle.sm83.specs.declared.Cpu.{Cpu}
 use Rattle.definition.specs.Execution.{_>>=_, _>>_, give}
-use Rattle.instruction.specs.declared.instruction.Instruction.{Instruction}
+use Rattle.instruction.specs.declared.Instruction.{Instruction}
 use Rattle.memory.specs.declared.Port.{Port}
 use Rattle.accesses.specs.Leads.{Leads}
 use Rattle.mirror.specs.Operands.{readOperand, writeOperand}

@@ -7,12 +7,12 @@ ghost use Rattle.mirror.specs.Mirror.{execRow};
 ghost use Rattle.mirror.specs.Runnable.{runnable};
 use destinations::write_operand;
 use execution::compute::compute;
-use instruction::instruction::Instruction;
+use instruction::Instruction;
 use memory::Port;
-use sm83::addr::Addr;
-use sm83::state::Cpu;
+use sm83::Addr;
+use sm83::Cpu;
 use sources::read_operand;
-use stages::dispatch::Executed;
+use stages::Executed;
 
 // `at` is the address of the instruction; PC is past its first byte, or its first two after a prefix.
 pub fn exec_instruction(

@@ -7,7 +7,7 @@ ghost use Rattle.flags.specs.Computed.{computed, byteWith};
 use flags::Computed;
 use flags::flagged;
 use flags::weight;
-use sm83::registers::CpuRegisters;
+use sm83::CpuRegisters;
 
 pub fn daa(a: u8, f: u8) -> Computed
     ensures { λ r. ⌜ r ≡ computed (daa a f) ⌝ }

@@ -2,8 +2,8 @@
 use mathlib.Core.Path.{_≡_, refl, ap, _∙_}
 use mathlib.Core.Bool.{Bool, true, false}
 use mathlib.Core.List.{List, [], _∷_}
-use Rattle.sm83.specs.declared.state.Cpu.{Cpu}
-use Rattle.sm83.specs.declared.state.HaltMode.the-variants.{NotHalting}
+use Rattle.sm83.specs.declared.Cpu.{Cpu}
+use Rattle.sm83.specs.declared.HaltMode.the-variants.{NotHalting}
 use Rattle.outcome.specs.declared.Outcome.{Outcome}
 use Rattle.outcome.specs.declared.Outcome.the-variants.{Halting, RunningHDMA, Stopped}
 use Rattle.sm83.specs.Basics.{if_then_else_}

@@ -6,8 +6,8 @@ use Prim.Native.Nat.{ℕ, _+_, _%_, _<_}
 use native.Mathlib.Omega.{arith}
 use lib.ListN.{set, length}
 use borrow.Author.Tests.{lt-ltb}
-use Rattle.sm83.specs.declared.state.Cpu.{Cpu}
-use Rattle.sm83.specs.declared.state.HaltMode.the-variants.{NotHalting}
+use Rattle.sm83.specs.declared.Cpu.{Cpu}
+use Rattle.sm83.specs.declared.HaltMode.the-variants.{NotHalting}
 use Rattle.outcome.specs.declared.Outcome.{Outcome}
 use Rattle.outcome.specs.declared.Outcome.the-variants.{Normal, RunningInterrupt}
 use Rattle.sm83.specs.Basics.{if_then_else_, highByte, lowByte, back}

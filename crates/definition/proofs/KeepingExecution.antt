@@ -3,7 +3,7 @@ use mathlib.Core.Bool.{Bool, true, false}
 use Prim.Native.Nat.{ℕ, _+_, _%_, _<_}
 use native.Mathlib.Omega.{arith}
 use lib.Dec.{eqb, leb, ltb, T, ltb→lt}
-use Rattle.sm83.specs.declared.state.HaltMode.the-variants.{HaltRunInterrupt, HaltNoRunInterrupt, HaltBug}
+use Rattle.sm83.specs.declared.HaltMode.the-variants.{HaltRunInterrupt, HaltNoRunInterrupt, HaltBug}
 use Rattle.outcome.specs.declared.Outcome.{Outcome}
 use Rattle.outcome.specs.declared.Refusal.the-variants.{IllegalOpcode}
 use Rattle.outcome.specs.declared.Outcome.the-variants.{Normal, InfiniteLoop, Halting, RunningHDMA, Stopped, RunningInterrupt, Breakpoint, Refused}

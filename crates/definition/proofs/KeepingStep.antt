@@ -5,8 +5,8 @@ use Prim.Native.Nat.{ℕ, zero, suc, _≤_}
 use native.Mathlib.Omega.{arith}
 use lib.Dec.{T}
 use borrow.Author.Tests.{ltb-true}
-use Rattle.sm83.specs.declared.state.Cpu.{Cpu}
-use Rattle.sm83.specs.declared.state.HaltMode.the-variants.{NotHalting}
+use Rattle.sm83.specs.declared.Cpu.{Cpu}
+use Rattle.sm83.specs.declared.HaltMode.the-variants.{NotHalting}
 use Rattle.outcome.specs.declared.Outcome.the-variants.{Normal, Halting, RunningHDMA, Stopped, RunningInterrupt}
 use Rattle.sm83.specs.Basics.{if_then_else_, highByte, lowByte, next, back}
 use Rattle.definition.specs.Bus.{Fetch, Stack, isInterrupt}

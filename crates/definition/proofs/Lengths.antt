@@ -5,7 +5,7 @@ use mathlib.Core.List.{List, [], _∷_}
 use Prim.Native.Nat.{ℕ, zero, suc, _+_, _%_}
 use native.Mathlib.Omega.{arith}
 use lib.ListN.{drop}
-use Rattle.sm83.specs.declared.state.Cpu.{Cpu}
+use Rattle.sm83.specs.declared.Cpu.{Cpu}
 use Rattle.outcome.specs.declared.Outcome.{Outcome}
 use Rattle.sm83.specs.Basics.{highByte, lowByte, next, back, offset}
 use Rattle.definition.specs.Bus.{Operand, Stack, Access, Write, Bus, runOn}

@@ -1,7 +1,7 @@
 -- A part of an instruction is the part alone, then what comes next: so a law of its tree alone carries over.
 use mathlib.Core.Path.{_≡_, refl, ap, _∙_}
 use Prim.Native.Nat.{ℕ}
-use Rattle.sm83.specs.declared.state.Cpu.{Cpu}
+use Rattle.sm83.specs.declared.Cpu.{Cpu}
 use Rattle.sm83.specs.Basics.{cleared, raised, next}
 use Rattle.definition.specs.Bus.{Ask, answer, read, Operand}
 use Rattle.sm83.specs.State.{pc, flags, setPC, setF}

@@ -5,7 +5,7 @@ use Prim.Native.Nat.{ℕ, zero, suc, _+_, _-_, _*_, _/_, _%_, _≤_, _<_}
 use native.Mathlib.Omega.{arith}
 use lib.Dec.{eqb, leb, ltb}
 use lib.Bits.{bitAnd, bitOr, bitXor, and-le-l, or-lt, xor-lt}
-use Rattle.sm83.specs.declared.registers.CpuRegisters.{CpuRegisters}
+use Rattle.sm83.specs.declared.CpuRegisters.{CpuRegisters}
 use Rattle.sm83.specs.Basics.{if_then_else_, bit, cleared, raised}
 use Rattle.sm83.specs.State.{writeA, writeF, writeSP, writePC, putBC, putDE, putHL}
 use Rattle.sm83.specs.Flags.{flagByte, flagZ, flagN, flagH, flagC}

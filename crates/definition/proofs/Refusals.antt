@@ -7,10 +7,10 @@ use Prim.Native.Nat.{ℕ, _%_, _<_}
 use lib.Dec.{eqb, T}
 use lib.ListN.{length}
 use borrow.Author.Tests.{eq-eqb, ne-eqb}
-use Rattle.sm83.specs.declared.registers.CpuRegisters.{CpuRegisters}
-use Rattle.sm83.specs.declared.state.Cpu.{Cpu}
-use Rattle.sm83.specs.declared.state.HaltMode.{HaltMode}
-use Rattle.sm83.specs.declared.state.HaltMode.the-variants.{NotHalting, HaltRunInterrupt, HaltNoRunInterrupt, HaltBug}
+use Rattle.sm83.specs.declared.CpuRegisters.{CpuRegisters}
+use Rattle.sm83.specs.declared.Cpu.{Cpu}
+use Rattle.sm83.specs.declared.HaltMode.{HaltMode}
+use Rattle.sm83.specs.declared.HaltMode.the-variants.{NotHalting, HaltRunInterrupt, HaltNoRunInterrupt, HaltBug}
 use Rattle.outcome.specs.declared.Refusal.{Refusal}
 use Rattle.outcome.specs.declared.Refusal.the-variants.{MemoryLength, LowBitsOfF, IllegalOpcode}
 use Rattle.outcome.specs.declared.Outcome.the-variants.{Refused}

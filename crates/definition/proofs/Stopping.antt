@@ -1,5 +1,5 @@
 -- "it stops early only after InfiniteLoop, Breakpoint, Stopped or a refusal": the outcomes that stop a run, in the document's words.
-use Rattle.sm83.specs.declared.registers.CpuRegisters.{CpuRegisters}
+use Rattle.sm83.specs.declared.CpuRegisters.{CpuRegisters}
 use Rattle.outcome.specs.declared.Refusal.{Refusal}
 use Rattle.outcome.specs.declared.Outcome.{Outcome}
 use Rattle.outcome.specs.declared.Outcome.the-variants.{Normal, InfiniteLoop, Halting, RunningHDMA, Stopped, RunningInterrupt, Breakpoint, Refused}

@@ -2,9 +2,9 @@
 use mathlib.Core.Bool.{Bool, true, false}
 use Prim.Native.Nat.{ℕ, _+_, _%_}
 use lib.Dec.{eqb}
-use Rattle.sm83.specs.declared.registers.CpuRegisters.{CpuRegisters}
-use Rattle.sm83.specs.declared.state.Cpu.{Cpu}
-use Rattle.sm83.specs.declared.state.HaltMode.the-variants.{HaltRunInterrupt, HaltNoRunInterrupt, HaltBug}
+use Rattle.sm83.specs.declared.CpuRegisters.{CpuRegisters}
+use Rattle.sm83.specs.declared.Cpu.{Cpu}
+use Rattle.sm83.specs.declared.HaltMode.the-variants.{HaltRunInterrupt, HaltNoRunInterrupt, HaltBug}
 use Rattle.outcome.specs.declared.Refusal.the-variants.{IllegalOpcode}
 use Rattle.outcome.specs.declared.Outcome.{Outcome}
 use Rattle.outcome.specs.declared.Outcome.the-variants.{Normal, InfiniteLoop, Breakpoint, Refused}

@@ -4,9 +4,9 @@ use mathlib.Core.List.{List, [], _∷_}
 use Prim.Native.Nat.{ℕ, _%_}
 use lib.Dec.{eqb}
 use lib.ListN.{getD}
-use Rattle.sm83.specs.declared.state.Cpu.{Cpu}
-use Rattle.sm83.specs.declared.state.HaltMode.{HaltMode}
-use Rattle.sm83.specs.declared.state.HaltMode.the-variants.{NotHalting, HaltRunInterrupt, HaltNoRunInterrupt, HaltBug}
+use Rattle.sm83.specs.declared.Cpu.{Cpu}
+use Rattle.sm83.specs.declared.HaltMode.{HaltMode}
+use Rattle.sm83.specs.declared.HaltMode.the-variants.{NotHalting, HaltRunInterrupt, HaltNoRunInterrupt, HaltBug}
 use Rattle.outcome.specs.declared.Refusal.{Refusal}
 use Rattle.outcome.specs.declared.Refusal.the-variants.{MemoryLength, LowBitsOfF}
 use Rattle.outcome.specs.declared.Outcome.{Outcome}

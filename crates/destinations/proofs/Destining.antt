@@ -2,17 +2,17 @@
 use mathlib.Core.Path.{_≡_, refl, ap, sym, subst, _∙_}
 use mathlib.Core.List.{List}
 use Prim.Native.Nat.{ℕ}
-use Rattle.sm83.specs.declared.registers.CpuRegisters.{CpuRegisters}
-use Rattle.sm83.specs.declared.state.Cpu.{Cpu}
+use Rattle.sm83.specs.declared.CpuRegisters.{CpuRegisters}
+use Rattle.sm83.specs.declared.Cpu.{Cpu}
 use Rattle.sm83.specs.Basics.{lowByte}
 use Rattle.sm83.specs.State.{writeA, putBC, putDE, putHL, writeAF, writeBC, writeDE, writeHL, writeSP, onRegisters}
-use Rattle.operands.specs.declared.operand.OperandType.{OperandType}
-use Rattle.operands.specs.declared.operand.OperandType.the-variants as ot
+use Rattle.operands.specs.declared.OperandType.{OperandType}
+use Rattle.operands.specs.declared.OperandType.the-variants as ot
 use Rattle.definition.specs.Bus.{Ask, Operand}
 use Rattle.definition.specs.Step.{Ended}
 use Rattle.definition.specs.Execution.{store}
 use Rattle.memory.specs.declared.Port.{Port}
-use Rattle.accesses.specs.declared.answers.Both.{Both}
+use Rattle.accesses.specs.declared.Both.{Both}
 use Rattle.destinations.specs.Widths.{both}
 use Rattle.memory.specs.World.{world, leads}
 use Rattle.accesses.specs.Leads.{Leads}

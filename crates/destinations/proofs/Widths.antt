@@ -6,8 +6,8 @@ use lib.Dec.{T, eqb, leb, ltb}
 use denote.Enum.Declared.{tagOf}
 use types.Run.{OneOf}
 use Rattle.sm83.specs.Basics.{if_then_else_}
-use Rattle.operands.specs.declared.operand.OperandType.{OperandType}
-use Rattle.operands.proofs.operand.OperandType.{enum, the-type}
+use Rattle.operands.specs.declared.OperandType.{OperandType}
+use Rattle.operands.proofs.OperandType.{enum, the-type}
 use Rattle.mirror.proofs.Every.{all, from, left-over, contrary}
 use Rattle.destinations.specs.Widths.{widthOf}
 

@@ -1,10 +1,10 @@
 -- How many bytes a register holds, 0 for what is no register; and a state with its port.
 use Prim.Native.Nat.{ℕ}
-use Rattle.sm83.specs.declared.state.Cpu.{Cpu}
-use Rattle.operands.specs.declared.operand.OperandType.{OperandType}
-use Rattle.operands.specs.declared.operand.OperandType.the-variants as ot
+use Rattle.sm83.specs.declared.Cpu.{Cpu}
+use Rattle.operands.specs.declared.OperandType.{OperandType}
+use Rattle.operands.specs.declared.OperandType.the-variants as ot
 use Rattle.memory.specs.declared.Port.{Port}
-use Rattle.accesses.specs.declared.answers.Both.{Both}
+use Rattle.accesses.specs.declared.Both.{Both}
 
 abbrev pub both : Cpu → Port → Both
 both cpu port = record { cpu = cpu; port = port }

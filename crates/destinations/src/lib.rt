@@ -4,23 +4,23 @@ ghost use mathlib.Core.List.{List};
 ghost use Prim.Native.Nat.{ℕ};
 ghost use lib.Dec.{T, eqb};
 ghost use lib.ListN.{length};
-ghost use Rattle.operands.specs.declared.operand.OperandType.the-variants.{AddrHLDec, AddrHLInc, HighAddr8, Addr16, Addr16Val16};
+ghost use Rattle.operands.specs.declared.OperandType.the-variants.{AddrHLDec, AddrHLInc, HighAddr8, Addr16, Addr16Val16};
 ghost use Rattle.sm83.specs.State.{onRegisters};
 ghost use Rattle.accesses.specs.Leads.{Leads};
 ghost use Rattle.mirror.specs.Operands.{writeOperand};
 ghost use Rattle.operands.specs.Operand.{writable};
 ghost use Rattle.destinations.specs.Widths.{both, widthOf};
+use accesses::Both;
 use accesses::access::high;
 use accesses::access::store;
-use accesses::answers::Both;
-use accesses::answers::with_registers;
 use accesses::fetch::fetch_next_pc;
 use accesses::fetch::fetch16;
+use accesses::states::with_registers;
 use memory::Port;
-use operands::operand::OperandType;
-use sm83::addr::Addr;
-use sm83::registers::CpuRegisters;
-use sm83::state::Cpu;
+use operands::OperandType;
+use sm83::Addr;
+use sm83::Cpu;
+use sm83::CpuRegisters;
 
 fn write_hl_dec(cpu: Cpu, port: Port, value: u16, mem: &mut [u8]) -> Both
     requires { ⌜ length (now mem) ≡ 65536 ⌝ }

@@ -2,7 +2,7 @@
 use mathlib.Core.Path.{_≡_, refl, ap, _∙_}
 use mathlib.Core.List.{List}
 use Prim.Native.Nat.{ℕ, _+_, _%_}
-use Rattle.sm83.specs.declared.state.Cpu.{Cpu}
+use Rattle.sm83.specs.declared.Cpu.{Cpu}
 use Rattle.outcome.specs.declared.Outcome.the-variants.{Normal}
 use Rattle.sm83.specs.State.{pairHL, setSP, setF}
 use Rattle.opcodes.specs.Arithmetic.{wordSumFlags}
@@ -11,7 +11,7 @@ use Rattle.alu16.specs.declared.ComputedWord.{ComputedWord}
 use Rattle.alu16.specs.Words.{wordWith}
 use Rattle.memory.specs.declared.Port.{Port}
 use Rattle.memory.specs.World.{leads, counted}
-use Rattle.results.specs.declared.answers.Worked.{Worked}
+use Rattle.results.specs.declared.Worked.{Worked}
 use Rattle.accesses.specs.Leads.{Leads}
 use Rattle.mirror.specs.Mirror.{made, loadSPMade, loadHLMade, addSPMade, addHLMade, slowlyMade, pushMade, popMade}
 use Rattle.results.specs.Worked.{madeBy, worked, offsetBy}

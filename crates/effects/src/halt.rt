@@ -4,13 +4,13 @@ ghost use lib.ListN.{length};
 ghost use Rattle.accesses.specs.Leads.{Leads};
 ghost use Rattle.mirror.specs.Mirror.{haltMade};
 ghost use Rattle.results.specs.Worked.{madeBy};
-use accesses::answers::with_halt;
+use accesses::states::with_halt;
 use interrupts::peek_next_interrupt;
 use memory::Port;
-use results::answers::Worked;
+use results::Worked;
 use results::plain;
-use sm83::state::Cpu;
-use sm83::state::HaltMode;
+use sm83::Cpu;
+use sm83::HaltMode;
 
 pub fn halt(cpu: Cpu, port: Port, mem: &mut [u8]) -> Worked
     requires { ⌜ length (now mem) ≡ 65536 ⌝ }

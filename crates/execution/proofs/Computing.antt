@@ -5,7 +5,7 @@ use mathlib.Core.List.{List}
 use Prim.Native.Nat.{ℕ, _%_, _<_}
 use native.Mathlib.Omega.{arith}
 use lib.Dec.{T, eqb, ltb, ltb→lt}
-use Rattle.sm83.specs.declared.state.Cpu.{Cpu}
+use Rattle.sm83.specs.declared.Cpu.{Cpu}
 use Rattle.outcome.specs.declared.Outcome.{Outcome}
 use Rattle.outcome.specs.declared.Outcome.the-variants.{Normal, InfiniteLoop, Breakpoint, Refused}
 use Rattle.outcome.specs.declared.Refusal.the-variants.{IllegalOpcode}
@@ -13,13 +13,13 @@ use Rattle.sm83.specs.Basics.{if_then_else_, lowByte, next, back, cleared, rais
 use Rattle.sm83.specs.State.{onRegisters, writeA, writeF, setF, setPC, setIme, setLatch, setStopped}
 use Rattle.opcodes.specs.Arithmetic.{Result, aluOp, accOp, shiftOp, increment, decrement, difference, bitTest}
 use Rattle.opcodes.specs.Instruction.{Alu, ADD, ADC, SUB, SBC, AND, XOR, OR, CP, Acc, RLCA, RRCA, RLA, RRA, DAA, CPL, SCF, CCF, Shift, RLC, RRC, RL, RR, SLA, SRA, SWAP, SRL}
-use Rattle.operands.specs.declared.condition.Condition.{Condition}
-use Rattle.instruction.specs.declared.opcode.Opcode.{Opcode}
-use Rattle.instruction.specs.declared.opcode.Opcode.the-variants as op
+use Rattle.operands.specs.declared.Condition.{Condition}
+use Rattle.instruction.specs.declared.Opcode.{Opcode}
+use Rattle.instruction.specs.declared.Opcode.the-variants as op
 use Rattle.flags.specs.declared.Computed.{Computed}
 use Rattle.flags.specs.Computed.{computed}
 use Rattle.memory.specs.declared.Port.{Port}
-use Rattle.results.specs.declared.answers.Worked.{Worked}
+use Rattle.results.specs.declared.Worked.{Worked}
 use Rattle.accesses.specs.Leads.{Leads}
 use Rattle.mirror.specs.Mirror.{Made, compute, haltMade, loadSPMade, loadHLMade, addSPMade, addHLMade, slowlyMade, pushMade, popMade, jpMade, jrMade, jumpMade, callMade, callIfMade, retIfMade, retiMade}
 use Rattle.results.specs.Worked.{madeBy, worked}

@@ -6,8 +6,8 @@ use lib.Dec.{T, leb, ltb}
 use denote.Enum.Declared.{tagOf}
 use types.Run.{OneOf}
 use Rattle.sm83.specs.Basics.{if_then_else_}
-use Rattle.instruction.specs.declared.opcode.Opcode.{Opcode}
-use Rattle.instruction.proofs.opcode.Opcode.{enum, the-type}
+use Rattle.instruction.specs.declared.Opcode.{Opcode}
+use Rattle.instruction.proofs.Opcode.{enum, the-type}
 use Rattle.mirror.specs.Runnable.{partOf}
 use Rattle.mirror.proofs.Every.{all, from, left-over, contrary}
 

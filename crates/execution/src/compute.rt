@@ -31,7 +31,7 @@ use effects::words::ld_sp_hl;
 use effects::words::pop_word;
 use effects::words::push_word;
 use effects::words::slowly;
-use instruction::opcode::Opcode;
+use instruction::Opcode;
 use jumps::call;
 use jumps::call_to;
 use jumps::jp;
@@ -40,7 +40,7 @@ use jumps::jump;
 use jumps::ret;
 use jumps::reti;
 use memory::Port;
-use results::answers::Worked;
+use results::Worked;
 use results::breakpoint;
 use results::di;
 use results::ei;
@@ -62,8 +62,8 @@ use shifts::sla;
 use shifts::sra;
 use shifts::srl;
 use shifts::swap;
-use sm83::addr::Addr;
-use sm83::state::Cpu;
+use sm83::Addr;
+use sm83::Cpu;
 
 // For an opcode that is not executed here: no call of this is ever reached.
 fn never_executed(cpu: Cpu, port: Port) -> Worked

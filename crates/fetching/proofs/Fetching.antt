@@ -5,8 +5,8 @@ use mathlib.Core.List.{List}
 use Prim.Native.Nat.{ℕ, _<_}
 use lib.Dec.{eqb, T}
 use borrow.Author.Tests.{ne-eqb}
-use Rattle.sm83.specs.declared.state.Cpu.{Cpu}
-use Rattle.sm83.specs.declared.state.HaltMode.the-variants.{NotHalting}
+use Rattle.sm83.specs.declared.Cpu.{Cpu}
+use Rattle.sm83.specs.declared.HaltMode.the-variants.{NotHalting}
 use Rattle.outcome.specs.declared.Outcome.{Outcome}
 use Rattle.sm83.specs.Basics.{if_then_else_, next}
 use Rattle.definition.specs.Bus.{Fetch, Ask, read, byteAt}
@@ -15,7 +15,7 @@ use Rattle.opcodes.specs.Instruction.{decode, decodeCB}
 use Rattle.definition.specs.Execution.{Does, _>>_, byteAtPC, imm8, prefixed, normal, execute}
 use Rattle.definition.specs.Step.{Ended, isBug, enabled, fetched, instruction}
 use Rattle.definition.proofs.Ranges.{Bytes}
-use Rattle.instruction.specs.declared.instruction.Instruction.{Instruction}
+use Rattle.instruction.specs.declared.Instruction.{Instruction}
 use Rattle.instruction.specs.Row.{rowOf, prefixedRow}
 use Rattle.memory.specs.declared.Port.{Port}
 use Rattle.memory.specs.World.{world, leads, counted}

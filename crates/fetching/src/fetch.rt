@@ -6,22 +6,14 @@ ghost use Rattle.definition.specs.Step.{enabled};
 ghost use Rattle.instruction.specs.Entry.{rowAt, Plain, Prefixed};
 ghost use Rattle.mirror.specs.Runnable.{runnable};
 ghost use Rattle.stages.specs.Stages.{unbugged, Fetches};
-use accesses::answers::with_halt;
+use crate::Fetched;
 use accesses::fetch::fetch_next_pc;
+use accesses::states::with_halt;
 use memory::Port;
-use sm83::addr::Addr;
-use sm83::state::Cpu;
-use sm83::state::HaltMode;
+use sm83::Addr;
+use sm83::Cpu;
+use sm83::HaltMode;
 use stages::halt::is_bug;
-
-// The table's entry for what is to be executed, the byte that it stands at, and from where it was fetched.
-pub struct Fetched {
-    pub cpu: Cpu,
-    pub port: Port,
-    pub entry: u32,
-    pub byte: u8,
-    pub at: Addr,
-}
 
 // 5. The EI latch goes into IME.
 pub fn enable(cpu: Cpu) -> Cpu

@@ -1,7 +1,7 @@
 -- The registers in twelve bytes: 0 A, 1 F, 2 B, 3 C, 4 D, 5 E, 6 H, 7 L, 8-9 SP, 10-11 PC.
 use mathlib.Core.List.{List, [], _∷_, _++_}
 use Prim.Native.Nat.{ℕ, _+_}
-use Rattle.sm83.specs.declared.registers.CpuRegisters.{CpuRegisters}
+use Rattle.sm83.specs.declared.CpuRegisters.{CpuRegisters}
 use Rattle.sm83.specs.State.{registersOf}
 use Rattle.definition.specs.Bus.{byteAt}
 use Rattle.fields.specs.Bytes.{wordBytes, wordAt}

@@ -6,9 +6,9 @@ ghost use lib.Seq.{sets};
 ghost use Rattle.sm83.specs.Basics.{bit};
 ghost use Rattle.fields.specs.Bytes.{wordBytes, wordAt, countBytes};
 ghost use Rattle.fields.specs.Registers.{registerBytes, registersAt};
-use sm83::addr::Addr;
-use sm83::addr::MCycles;
-use sm83::registers::CpuRegisters;
+use sm83::Addr;
+use sm83::CpuRegisters;
+use sm83::MCycles;
 use sm83::registers::pair;
 
 pub fn flag_byte(on: bool) -> u8

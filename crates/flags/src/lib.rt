@@ -2,7 +2,7 @@
 ghost use mathlib.Core.Path.{_≡_};
 ghost use Rattle.sm83.specs.Flags.{flagByte};
 ghost use Rattle.flags.specs.Computed.{Weighs, IsBit, byteWith};
-use sm83::registers::CpuRegisters;
+use sm83::CpuRegisters;
 
 pub struct Computed {
     pub value: u8,

@@ -6,13 +6,13 @@ use lib.Dec.{ltb}
 use lib.ListN.{getD}
 use Rattle.sm83.specs.Basics.{if_then_else_}
 use Rattle.opcodes.specs.Instruction.{decode, decodeCB}
-use Rattle.operands.specs.declared.operand.OperandType.{OperandType}
-use Rattle.operands.specs.declared.operand.OperandType.the-variants as ot
-use Rattle.operands.specs.declared.condition.Condition.{Condition}
-use Rattle.operands.specs.declared.condition.Condition.the-variants as cn
-use Rattle.instruction.specs.declared.opcode.Opcode.{Opcode}
-use Rattle.instruction.specs.declared.opcode.Opcode.the-variants as op
-use Rattle.instruction.specs.declared.instruction.Instruction.{Instruction}
+use Rattle.operands.specs.declared.OperandType.{OperandType}
+use Rattle.operands.specs.declared.OperandType.the-variants as ot
+use Rattle.operands.specs.declared.Condition.{Condition}
+use Rattle.operands.specs.declared.Condition.the-variants as cn
+use Rattle.instruction.specs.declared.Opcode.{Opcode}
+use Rattle.instruction.specs.declared.Opcode.the-variants as op
+use Rattle.instruction.specs.declared.Instruction.{Instruction}
 use Rattle.operands.specs.Numbered.{operandAt, conditionAt}
 use Rattle.instruction.specs.Row.{rowOf, prefixedRow}
 

@@ -1,13 +1,13 @@
 -- The row of 001's tables for each instruction of the definition: an operation, where its operand comes from and where its result goes.
 -- "An operand whose kind `exec_instruction` doesn't need is `Implied`."
 use Prim.Native.Nat.{ℕ}
-use Rattle.operands.specs.declared.condition.Condition.{Condition}
-use Rattle.operands.specs.declared.condition.Condition.the-variants as cn
-use Rattle.operands.specs.declared.operand.OperandType.{OperandType}
-use Rattle.operands.specs.declared.operand.OperandType.the-variants as ot
-use Rattle.instruction.specs.declared.opcode.Opcode.{Opcode}
-use Rattle.instruction.specs.declared.opcode.Opcode.the-variants as op
-use Rattle.instruction.specs.declared.instruction.Instruction.{Instruction}
+use Rattle.operands.specs.declared.Condition.{Condition}
+use Rattle.operands.specs.declared.Condition.the-variants as cn
+use Rattle.operands.specs.declared.OperandType.{OperandType}
+use Rattle.operands.specs.declared.OperandType.the-variants as ot
+use Rattle.instruction.specs.declared.Opcode.{Opcode}
+use Rattle.instruction.specs.declared.Opcode.the-variants as op
+use Rattle.instruction.specs.declared.Instruction.{Instruction}
 use Rattle.opcodes.specs.Instruction.{Reg8, rB, rC, rD, rE, rH, rL, [HL], rA, Reg16, rBC, rDE, rHL, rSP, Stacked, pBC, pDE, pHL, pAF, Pointer, [BC], [DE], [HL+], [HL-], Cond, cNZ, cZ, cNC, cC}
 use Rattle.opcodes.specs.Instruction.{Alu, ADD, ADC, SUB, SBC, AND, XOR, OR, CP, Acc, RLCA, RRCA, RLA, RRA, DAA, CPL, SCF, CCF, Shift, RLC, RRC, RL, RR, SLA, SRA, SWAP, SRL}
 use Rattle.opcodes.specs.Instruction.{Work, NOP, DI, LD-r8-r8, LD-r8-n8, LD-r16-n16, LD-[r16]-A, LD-A-[r16], LD-[n16]-A, LD-A-[n16], LDH-[n8]-A, LDH-A-[n8], LDH-[C]-A, LDH-A-[C], LD-[n16]-SP, LD-SP-HL, LD-HL-SP+e8, ADD-SP-e8, ALU-A-r8, ALU-A-n8, ACC, INC-r8, DEC-r8, INC-r16, DEC-r16, ADD-HL-r16, PUSH-r16, POP-r16}

@@ -10,7 +10,7 @@ use bitwise::bits::res;
 use memory::Got;
 use memory::Port;
 use memory::write;
-use sm83::addr::Addr;
+use sm83::Addr;
 
 const INTERRUPTS_VECTOR: [u16; 5] = [0x40, 0x48, 0x50, 0x58, 0x60];
 

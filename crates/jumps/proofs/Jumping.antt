@@ -4,17 +4,17 @@ use mathlib.Core.Path.{_≡_, refl, ap, sym, _∙_}
 use mathlib.Core.List.{List}
 use Prim.Native.Nat.{ℕ, _+_, _%_}
 use lib.Dec.{eqb}
-use Rattle.sm83.specs.declared.state.Cpu.{Cpu}
+use Rattle.sm83.specs.declared.Cpu.{Cpu}
 use Rattle.outcome.specs.declared.Outcome.the-variants.{Normal, InfiniteLoop}
 use Rattle.sm83.specs.Basics.{if_then_else_}
 use Rattle.definition.specs.Bus.{Ask}
 use Rattle.definition.specs.Step.{Ended}
 use Rattle.sm83.specs.State.{pc, setPC}
 use Rattle.definition.specs.Execution.{Does, _>>=_, _>>_, nothing, change, goTo, wait, push, pop, return}
-use Rattle.operands.specs.declared.condition.Condition.{Condition}
+use Rattle.operands.specs.declared.Condition.{Condition}
 use Rattle.memory.specs.declared.Port.{Port}
 use Rattle.memory.specs.World.{world, leads, counted}
-use Rattle.results.specs.declared.answers.Worked.{Worked}
+use Rattle.results.specs.declared.Worked.{Worked}
 use Rattle.accesses.specs.Leads.{Leads}
 use Rattle.operands.specs.Holding.{checkCond, isUnconditional}
 use Rattle.mirror.specs.Mirror.{Made, made, jumpMade, onlyIfMade, callMade, retMade, retIfMade}

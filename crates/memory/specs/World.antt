@@ -2,7 +2,7 @@
 use mathlib.Core.List.{List}
 use Prim.Native.Nat.{ℕ, _+_, _%_}
 use lib.ListN.{set, length}
-use Rattle.sm83.specs.declared.addr.MCycles.{MCycles}
+use Rattle.sm83.specs.declared.MCycles.{MCycles}
 use Rattle.definition.specs.Bus.{Bus, Kind, Ask, answer, read, write, idle, peek, writeAndTake, Stack, byteAt, pending, taken}
 use Rattle.memory.specs.declared.Port.{Port}
 

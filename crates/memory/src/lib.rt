@@ -3,8 +3,8 @@ ghost use mathlib.Core.Path.{_≡_};
 ghost use lib.ListN.{length, set};
 ghost use Rattle.definition.specs.Bus.{byteAt};
 ghost use Rattle.memory.specs.World.{counted};
-use sm83::addr::Addr;
-use sm83::addr::MCycles;
+use sm83::Addr;
+use sm83::MCycles;
 
 pub struct Port {
     pub cycles: MCycles,

@@ -2,7 +2,7 @@
 use mathlib.Core.Path.{_≡_, refl, ap, _∙_}
 use mathlib.Core.List.{List}
 use Prim.Native.Nat.{ℕ, _<_}
-use Rattle.sm83.specs.declared.state.Cpu.{Cpu}
+use Rattle.sm83.specs.declared.Cpu.{Cpu}
 use Rattle.sm83.specs.Basics.{lowByte}
 use Rattle.definition.specs.Bus.{Ask}
 use Rattle.sm83.specs.State.{pairHL, flags, setF}

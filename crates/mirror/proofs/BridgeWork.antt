@@ -3,7 +3,7 @@ use mathlib.Core.Path.{_≡_, refl, ap, _∙_}
 use mathlib.Core.List.{List}
 use Prim.Native.Nat.{ℕ, _<_}
 use native.Mathlib.Omega.{arith}
-use Rattle.sm83.specs.declared.state.Cpu.{Cpu}
+use Rattle.sm83.specs.declared.Cpu.{Cpu}
 use Rattle.outcome.specs.declared.Outcome.{Outcome}
 use Rattle.outcome.specs.declared.Outcome.the-variants.{Normal}
 use Rattle.sm83.specs.Basics.{lowByte, next}
@@ -14,8 +14,8 @@ use Rattle.opcodes.specs.Instruction.{Reg16, rBC, rDE, rHL, rSP, pBC, pDE, pHL,
 use Rattle.opcodes.specs.Instruction.{Work, NOP, DI, LD-r8-r8, LD-r8-n8, LD-r16-n16, LD-[r16]-A, LD-A-[r16], LD-[n16]-A, LD-A-[n16], LDH-[n8]-A, LDH-A-[n8], LDH-[C]-A, LDH-A-[C], LD-[n16]-SP, LD-SP-HL, LD-HL-SP+e8, ADD-SP-e8, ALU-A-r8, ALU-A-n8, ACC, INC-r8, DEC-r8, INC-r16, DEC-r16, ADD-HL-r16, PUSH-r16, POP-r16}
 use Rattle.definition.specs.Execution.{get16, put16, moved, intoA, execute, executing}
 use Rattle.definition.specs.Step.{Ended}
-use Rattle.operands.specs.declared.operand.OperandType.{OperandType}
-use Rattle.instruction.specs.declared.instruction.Instruction.{Instruction}
+use Rattle.operands.specs.declared.OperandType.{OperandType}
+use Rattle.instruction.specs.declared.Instruction.{Instruction}
 use Rattle.instruction.specs.Row.{operand16, aluRow, workRow}
 use Rattle.memory.specs.declared.Port.{Port}
 use Rattle.memory.specs.World.{world, leads, counted}

@@ -4,7 +4,7 @@ use mathlib.Core.Bool.{Bool, true, false}
 use Prim.Native.Nat.{ℕ, _+_, _%_, _<_}
 use native.Mathlib.Omega.{arith}
 use lib.Dec.{ltb}
-use Rattle.sm83.specs.declared.registers.CpuRegisters.{CpuRegisters}
+use Rattle.sm83.specs.declared.CpuRegisters.{CpuRegisters}
 use Rattle.sm83.specs.Basics.{if_then_else_, lowByte, signed}
 
 -- the registers that an r8 names, F aside

@@ -5,11 +5,11 @@ use lib.Dec.{eqb}
 use Rattle.outcome.specs.declared.Refusal.the-variants.{IllegalOpcode}
 use Rattle.outcome.specs.declared.Outcome.{Outcome}
 use Rattle.outcome.specs.declared.Outcome.the-variants.{Normal, InfiniteLoop, Breakpoint, Refused}
-use Rattle.operands.specs.declared.condition.Condition.{Condition}
+use Rattle.operands.specs.declared.Condition.{Condition}
 use Rattle.operands.specs.Holding.{checkCond, isUnconditional}
-use Rattle.instruction.specs.declared.opcode.Opcode.{Opcode}
-use Rattle.instruction.specs.declared.opcode.Opcode.the-variants as op
-use Rattle.instruction.specs.declared.instruction.Instruction.{Instruction}
+use Rattle.instruction.specs.declared.Opcode.{Opcode}
+use Rattle.instruction.specs.declared.Opcode.the-variants as op
+use Rattle.instruction.specs.declared.Instruction.{Instruction}
 use Rattle.sm83.specs.Basics.{if_then_else_, cleared, raised, lowByte, highByte, next, back, signed}
 use Rattle.definition.specs.Bus.{Operand}
 use Rattle.sm83.specs.State.{pairAF, pairBC, pairDE, pairHL, writeA, writeF, writeSP, putBC, putDE, putHL, writeBC, writeDE, writeHL, writeAF, setF, sp, setPC, setIme, setLatch, setStopped}

@@ -1,7 +1,7 @@
 -- What `read_operand` and `write_operand` of 000 do, as accesses in order.
 use Prim.Native.Nat.{ℕ}
-use Rattle.operands.specs.declared.operand.OperandType.{OperandType}
-use Rattle.operands.specs.declared.operand.OperandType.the-variants as ot
+use Rattle.operands.specs.declared.OperandType.{OperandType}
+use Rattle.operands.specs.declared.OperandType.the-variants as ot
 use Rattle.sm83.specs.Basics.{lowByte, highByte, next, back, signed}
 use Rattle.definition.specs.Bus.{Operand}
 use Rattle.sm83.specs.State.{pairAF, pairBC, pairDE, pairHL, writeA, writeSP, putBC, putDE, putHL, writeBC, writeDE, writeHL, writeAF}

@@ -2,9 +2,9 @@
 use mathlib.Core.Bool.{Bool, _&&_}
 use Prim.Native.Nat.{ℕ}
 use lib.Dec.{ltb}
-use Rattle.instruction.specs.declared.opcode.Opcode.{Opcode}
-use Rattle.instruction.specs.declared.opcode.Opcode.the-variants as op
-use Rattle.instruction.specs.declared.instruction.Instruction.{Instruction}
+use Rattle.instruction.specs.declared.Opcode.{Opcode}
+use Rattle.instruction.specs.declared.Opcode.the-variants as op
+use Rattle.instruction.specs.declared.Instruction.{Instruction}
 use Rattle.operands.specs.Operand.{readable, writable}
 
 -- of each opcode: which of the three parts of the match of `exec_instruction` holds it, and the bit that it names; 8 for PREFIX, which is

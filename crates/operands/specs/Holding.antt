@@ -2,8 +2,8 @@
 use mathlib.Core.Bool.{Bool, true, false, not}
 use Prim.Native.Nat.{ℕ}
 use Rattle.sm83.specs.Flags.{flagZ, flagC}
-use Rattle.operands.specs.declared.condition.Condition.{Condition}
-use Rattle.operands.specs.declared.condition.Condition.the-variants as cn
+use Rattle.operands.specs.declared.Condition.{Condition}
+use Rattle.operands.specs.declared.Condition.the-variants as cn
 
 -- `check_cond` of 000
 unfoldable pub checkCond : Condition → ℕ → Bool

@@ -2,10 +2,10 @@
 use mathlib.Core.List.{List, [], _∷_}
 use Prim.Native.Nat.{ℕ}
 use lib.ListN.{getD}
-use Rattle.operands.specs.declared.operand.OperandType.{OperandType}
-use Rattle.operands.specs.declared.operand.OperandType.the-variants as ot
-use Rattle.operands.specs.declared.condition.Condition.{Condition}
-use Rattle.operands.specs.declared.condition.Condition.the-variants as cn
+use Rattle.operands.specs.declared.OperandType.{OperandType}
+use Rattle.operands.specs.declared.OperandType.the-variants as ot
+use Rattle.operands.specs.declared.Condition.{Condition}
+use Rattle.operands.specs.declared.Condition.the-variants as cn
 
 abbrev pub operands : List OperandType
 operands =

@@ -1,35 +1,7 @@
 // Where an operand comes from or a result goes, and the numbers by which the tables name it.
 ghost use mathlib.Core.Path.{_≡_};
 ghost use Rattle.operands.specs.Numbered.{operandAt};
-
-pub enum OperandType {
-    RegA,
-    RegB,
-    RegC,
-    RegD,
-    RegE,
-    RegH,
-    RegL,
-    AddrHL,
-    AddrHLDec,
-    AddrHLInc,
-    AddrBC,
-    AddrDE,
-    RegAF,
-    RegBC,
-    RegDE,
-    RegHL,
-    RegSP,
-    Imm8,
-    Imm8Signed,
-    Imm16,
-    HighAddr8,
-    HighAddrC,
-    Addr16,
-    Addr16Val16,
-    // none: a kind that the execution does not need
-    Implied,
-}
+use crate::OperandType;
 
 pub fn operand_of(n: u8) -> OperandType
     ensures { λ r. ⌜ r ≡ operandAt n ⌝ }

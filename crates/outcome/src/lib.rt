@@ -1,8 +1,8 @@
 // What the core answers: how a step or a run ended, why it was refused, what the screen says. The numbers are the document's.
 ghost use mathlib.Core.Path.{_≡_};
 ghost use Rattle.outcome.specs.Numbers.{numberOf, outcomeNumber, lastNumber, verdictNumber};
-use sm83::addr::Addr;
-use sm83::registers::CpuRegisters;
+use sm83::Addr;
+use sm83::CpuRegisters;
 
 // Why the core says no, in the order of the document's table.
 pub enum Refusal {

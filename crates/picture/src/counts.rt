@@ -4,7 +4,7 @@ ghost use Rattle.sm83.specs.Basics.{bit};
 ghost use Rattle.picture.specs.Counts.{byteIn, countsOf};
 use reading::byte::byte;
 use reading::opcode::is_jump;
-use sm83::addr::Addr;
+use sm83::Addr;
 
 pub struct Counts {
     pub instructions: u64,

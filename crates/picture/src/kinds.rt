@@ -6,7 +6,7 @@ use outcome::Verdict;
 use reading::byte::byte;
 use reading::opcode::is_jump;
 use reading::opcode::length_of;
-use sm83::addr::Addr;
+use sm83::Addr;
 
 // The refused byte, if one is `found`, and whether the walk ends there.
 pub struct Stop {

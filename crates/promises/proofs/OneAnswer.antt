@@ -3,8 +3,8 @@ use mathlib.Core.Path.{_≡_, ap, sym, _∙_}
 use mathlib.Core.Bool.{Bool}
 use mathlib.Core.List.{List}
 use Prim.Native.Nat.{ℕ}
-use Rattle.sm83.specs.declared.registers.CpuRegisters.{CpuRegisters}
-use Rattle.sm83.specs.declared.state.Cpu.{Cpu}
+use Rattle.sm83.specs.declared.CpuRegisters.{CpuRegisters}
+use Rattle.sm83.specs.declared.Cpu.{Cpu}
 use Rattle.sm83.specs.PowerOn.{awake-with, cpu-zero, cpu-dmg, cpu-cgb, cpu-cgb-dmg}
 use Rattle.calls.specs.Left.{Left, left, runBlocks}
 use Rattle.screencall.specs.Screened.{LeftByScreen, leftByScreen, screenBlocks}

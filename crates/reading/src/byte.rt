@@ -1,7 +1,7 @@
 // A byte of a memory of any length.
 ghost use mathlib.Core.Path.{_≡_};
 ghost use Rattle.definition.specs.Bus.{byteAt};
-use sm83::addr::Addr;
+use sm83::Addr;
 
 // 0 past the end of the memory.
 pub fn byte(mem: &[u8], at: Addr) -> u8

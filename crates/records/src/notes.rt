@@ -10,7 +10,7 @@ use crate::layout::memory_length;
 use crate::layout::wide;
 use fields::bytes::word_at;
 use interrupts::peek_next_interrupt;
-use sm83::addr::Addr;
+use sm83::Addr;
 
 // Where the counts stand: opcodes at 0 to 511 (after CB from 256 on), then 256 places for each of the others.
 pub const KINDS: usize = 512;

@@ -11,9 +11,8 @@ use cpu::step::next_instruction;
 use ending::stops;
 use memory::Port;
 use outcome::LastOutcome;
-use outcome::Outcome;
-use sm83::addr::MCycles;
-use sm83::state::Cpu;
+use sm83::Cpu;
+use sm83::MCycles;
 use tables::instructions_table::instructions;
 use tables::prefixed_table::prefixed_instructions;
 

@@ -5,75 +5,14 @@ ghost use Prim.Native.Nat.{_+_, _≤_};
 ghost use Rattle.sm83.specs.Basics.{bit};
 ghost use Rattle.sample.specs.Replay.{agrees, differs};
 use fields::bytes::word_at;
-use libc::STDOUT_FILENO;
 use records::front::front_size;
-use records::layout::wide;
 use records::notes::note;
+use report::said::say_cut;
+use report::said::say_differs;
+use report::said::say_rest;
+use report::said::say_row;
+use report::said::say_short;
 use sample::agrees;
-
-fn say(words: &[u8], number: usize) {
-    io::write_all(STDOUT_FILENO, words);
-    io::print_decimal(STDOUT_FILENO, number as u64);
-}
-
-fn say_result(same: bool) {
-    if same {
-        io::write_all(STDOUT_FILENO, b": ok\n");
-    } else {
-        io::write_all(STDOUT_FILENO, b": DIFFERS\n");
-    }
-}
-
-// A record with a name is a row of the document; it stands at the end.
-fn say_row(item: &[u8], same: bool) {
-    if item.len() < 4 {
-        return;
-    }
-    let n = wide(item[3]);
-    if n == 0 {
-        return;
-    }
-    if n <= item.len() {
-        let from = item.len() - n;
-        io::write_all(STDOUT_FILENO, b"row ");
-        io::write_all(STDOUT_FILENO, &item[from..]);
-        say_result(same);
-    }
-}
-
-fn say_short() {
-    io::write_all(
-        STDOUT_FILENO,
-        b"the sample is shorter than 2 bytes: make it again with oracle/sample\n",
-    );
-}
-
-fn say_cut(before: usize, at: usize) {
-    say(b"no whole record at byte ", at);
-    say(b", after record ", before);
-    io::write_all(
-        STDOUT_FILENO,
-        b": the sample is cut short; make it again with oracle/sample\n",
-    );
-}
-
-fn say_rest(at: usize) {
-    say(b"the last record ends at byte ", at);
-    io::write_all(
-        STDOUT_FILENO,
-        b", but the sample goes on: make it again with oracle/sample\n",
-    );
-}
-
-// Records are numbered from 1, as `oracle/sample --show` numbers them.
-fn say_differs(before: usize, at: usize) {
-    say(b"record ", std::num::wrapping_add_usize(before, 1));
-    say(b", at byte ", at);
-    io::write_all(
-        STDOUT_FILENO,
-        b", DIFFERS: see it with oracle/sample --show\n",
-    );
-}
 
 // 1 if the core does not agree with the record, which is then named.
 fn round(

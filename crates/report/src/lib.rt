@@ -8,6 +8,8 @@ use records::notes::KINDS;
 use records::notes::OUTCOMES;
 use records::notes::VERDICTS;
 
+pub mod said;
+
 fn long(n: u32) -> u64 {
     n as u64
 }

@@ -2,13 +2,13 @@
 use mathlib.Core.Path.{_≡_, sym, subst}
 use mathlib.Core.List.{List}
 use Prim.Native.Nat.{ℕ}
-use Rattle.sm83.specs.declared.state.Cpu.{Cpu}
+use Rattle.sm83.specs.declared.Cpu.{Cpu}
 use Rattle.definition.specs.Step.{Ended}
 use Rattle.definition.specs.Execution.{Does}
 use Rattle.memory.specs.declared.Port.{Port}
 use Rattle.accesses.specs.Leads.{Leads}
 use Rattle.mirror.specs.Mirror.{Made}
-use Rattle.results.specs.declared.answers.Worked.{Worked}
+use Rattle.results.specs.declared.Worked.{Worked}
 use Rattle.results.specs.Worked.{madeBy}
 
 pub ending : (s : Cpu) (port : Port) (m m' : List ℕ) (r w : Worked) (P : Does Ended Made) → r ≡ w → Leads P s port m (madeBy w) (w .cpu) (w .port) m' → Leads P s port m (madeBy r) (r .cpu) (r .port) m'

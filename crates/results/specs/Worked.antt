@@ -2,13 +2,13 @@
 use Prim.Native.Nat.{ℕ, _+_, _%_}
 use Rattle.outcome.specs.declared.Outcome.{Outcome}
 use Rattle.outcome.specs.declared.Outcome.the-variants.{Normal}
-use Rattle.sm83.specs.declared.state.Cpu.{Cpu}
+use Rattle.sm83.specs.declared.Cpu.{Cpu}
 use Rattle.sm83.specs.Basics.{lowByte}
 use Rattle.sm83.specs.State.{sp, setF}
 use Rattle.opcodes.specs.Arithmetic.{offsetFlags}
 use Rattle.memory.specs.declared.Port.{Port}
 use Rattle.mirror.specs.Mirror.{Made}
-use Rattle.results.specs.declared.answers.Worked.{Worked}
+use Rattle.results.specs.declared.Worked.{Worked}
 
 abbrev pub madeBy : Worked → Made
 madeBy r = record { value = r .value; outcome = r .outcome }

@@ -4,13 +4,13 @@ ghost use Rattle.outcome.specs.declared.Outcome.the-variants.{Refused};
 ghost use Rattle.outcome.specs.declared.Refusal.the-variants.{IllegalOpcode};
 ghost use Rattle.sm83.specs.State.{setPC};
 ghost use Rattle.results.specs.Worked.{worked};
-use crate::answers::Worked;
-use accesses::answers::with_registers;
+use crate::Worked;
+use accesses::states::with_registers;
 use memory::Port;
 use outcome::Outcome;
 use outcome::Refusal;
-use sm83::addr::Addr;
-use sm83::state::Cpu;
+use sm83::Addr;
+use sm83::Cpu;
 
 // PC as before the fetch. What points 3 and 5 did stays, and so does the end of HaltBug.
 pub fn illegal(cpu: Cpu, port: Port, at: Addr) -> Worked

@@ -4,15 +4,21 @@ ghost use mathlib.Core.Bool.{true, false};
 ghost use Rattle.outcome.specs.declared.Outcome.the-variants.{Normal, Breakpoint};
 ghost use Rattle.sm83.specs.State.{onRegisters, writeA, writeF, setStopped, setIme, setLatch};
 ghost use Rattle.results.specs.Worked.{worked};
-use crate::answers::Worked;
-use accesses::answers::with_registers;
+use accesses::states::with_registers;
 use flags::Computed;
 use memory::Port;
 use outcome::Outcome;
-use sm83::state::Cpu;
+use sm83::Cpu;
 
-pub mod answers;
 pub mod illegal;
+
+// What the middle of an instruction answers: the state and the port as it leaves them, the value that is to be written, and the outcome.
+pub struct Worked {
+    pub cpu: Cpu,
+    pub port: Port,
+    pub value: u16,
+    pub outcome: Outcome,
+}
 
 pub fn plain(cpu: Cpu, port: Port, value: u16) -> Worked
     ensures { λ r. ⌜ r ≡ worked cpu port value Normal ⌝ }

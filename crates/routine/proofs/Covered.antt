@@ -4,7 +4,7 @@ use mathlib.Core.Bool.{not}
 use mathlib.Core.List.{List}
 use Prim.Native.Nat.{ℕ, _+_, _≤_, _<_}
 use lib.Dec.{T}
-use Rattle.sm83.specs.declared.state.Cpu.{Cpu}
+use Rattle.sm83.specs.declared.Cpu.{Cpu}
 use Rattle.definition.specs.Bus.{Bus, Ran, byteAt}
 use Rattle.sm83.specs.State.{pc, flags}
 use Rattle.opcodes.specs.Instruction.{decode}

@@ -8,7 +8,7 @@ use Prim.Native.Nat.{ℕ, zero, suc, _+_, _≤_, _<_}
 use native.Mathlib.Nat.{eq-or-lt-of-le}
 use native.Mathlib.Omega.{arith}
 use lib.Dec.{T, T-not}
-use Rattle.sm83.specs.declared.addr.Addr.{Addr}
+use Rattle.sm83.specs.declared.Addr.{Addr}
 use Rattle.outcome.specs.declared.Refusal.{Refusal}
 use Rattle.outcome.specs.declared.Refusal.the-variants.{FallsThrough, JumpUnmarked}
 use Rattle.outcome.specs.declared.Verdict.{Verdict}

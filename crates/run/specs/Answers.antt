@@ -2,7 +2,7 @@
 use mathlib.Core.Path.{_≡_}
 use mathlib.Core.List.{List}
 use Prim.Native.Nat.{ℕ}
-use Rattle.sm83.specs.declared.state.Cpu.{Cpu}
+use Rattle.sm83.specs.declared.Cpu.{Cpu}
 use Rattle.outcome.specs.declared.Outcome.{Outcome}
 use Rattle.outcome.specs.declared.Outcome.the-variants.{Normal}
 use Rattle.outcome.specs.declared.LastOutcome.{LastOutcome}

@@ -9,8 +9,8 @@ use outcome::Outcome;
 use outcome::Refusal;
 use repeat::Ran;
 use repeat::repeat;
-use sm83::addr::MCycles;
-use sm83::state::Cpu;
+use sm83::Cpu;
+use sm83::MCycles;
 
 pub struct Stepped {
     pub outcome: Outcome,

@@ -14,7 +14,7 @@ use records::layout::listed;
 use records::layout::memory_length;
 use records::layout::wide;
 use records::slices::patch;
-use same::same;
+use told::as_told;
 
 fn ask(kind: u8, state: &mut [u8], mem: &mut [u8], budget: u16, answer: &mut [u8]) -> u16
     ensures { λ r. ⌜ left r (now (state .exit)) (now (mem .exit)) (now (answer .exit)) ≡ runBlocks (budgetOf kind budget) (now (state .entry)) (now (mem .entry)) (now (answer .entry)) ⌝ }
@@ -39,11 +39,7 @@ fn compare(item: &[u8], mem: &mut [u8], want: &mut [u8]) -> bool
     bytes::copy(&item[15..39], &mut state);
     let mut answer = [0u8; 24];
     let number = ask(item[2], &mut state, mem, word_at(item, 11), &mut answer);
-    let numbered = number == word_at(item, 63);
-    let stated = same(&state, &item[39..63]);
-    let kept = same(mem, want);
-    let answered = same(&answer, &item[63..87]);
-    numbered & (stated & (kept & answered))
+    as_told(item, number, &state, mem, want, &answer)
 }
 
 pub fn run_agrees(item: &[u8], mem: &mut [u8], want: &mut [u8]) -> bool

@@ -6,7 +6,7 @@ ghost use Rattle.walks.specs.Parts.{Inside, settled, Judged};
 use outcome::Refusal;
 use outcome::Verdict;
 use shapes::window::clear;
-use sm83::addr::Addr;
+use sm83::Addr;
 use targets::strays;
 use walks::walk::walk;
 

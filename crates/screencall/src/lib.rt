@@ -2,7 +2,7 @@
 ghost use mathlib.Core.Path.{_≡_};
 ghost use Rattle.screencall.specs.Screened.{leftByScreen, screenBlocks};
 use screen::screen::screen;
-use sm83::addr::Addr;
+use sm83::Addr;
 use verdicts::write_verdict;
 
 const MALFORMED: u8 = 255;

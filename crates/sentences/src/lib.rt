@@ -4,8 +4,8 @@ use lines::line_of;
 use reading::opcode::length_of;
 use saying::page::print;
 use saying::page::print_short;
-use sm83::addr::Addr;
-use sm83::registers::CpuRegisters;
+use sm83::Addr;
+use sm83::CpuRegisters;
 
 pub fn byte(mem: &[u8], a: u16) -> u8 {
     reading::byte::byte(mem, Addr(a))

@@ -7,7 +7,7 @@ ghost use Rattle.routine.specs.Flow.{instructionAt};
 ghost use Rattle.shapes.specs.Class.{shapeOf};
 use crate::class::Shape;
 use crate::class::shape_of;
-use sm83::addr::Addr;
+use sm83::Addr;
 
 // "marks all 0"
 pub fn clear(marks: &mut [u8])

@@ -6,7 +6,7 @@ ghost use Rattle.flags.specs.Computed.{computed, result};
 use flags::Computed;
 use flags::bit_of;
 use flags::flagged;
-use sm83::registers::CpuRegisters;
+use sm83::CpuRegisters;
 
 // What a rotation or shift makes, and the bit that left.
 fn with_carry_out(v: u8, out: u8) -> Computed

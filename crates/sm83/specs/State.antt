@@ -1,10 +1,10 @@
 -- The state: what its parts are called, and the state with one part changed.
 use mathlib.Core.Bool.{Bool}
 use Prim.Native.Nat.{ℕ, _+_, _*_, _/_, _%_}
-use Rattle.sm83.specs.declared.addr.Addr.{Addr}
-use Rattle.sm83.specs.declared.registers.CpuRegisters.{CpuRegisters}
-use Rattle.sm83.specs.declared.state.Cpu.{Cpu}
-use Rattle.sm83.specs.declared.state.HaltMode.{HaltMode}
+use Rattle.sm83.specs.declared.Addr.{Addr}
+use Rattle.sm83.specs.declared.CpuRegisters.{CpuRegisters}
+use Rattle.sm83.specs.declared.Cpu.{Cpu}
+use Rattle.sm83.specs.declared.HaltMode.{HaltMode}
 use Rattle.sm83.specs.Basics.{word, highByte, lowByte}
 
 -- "an address and a count of M-cycles are never mixed up"

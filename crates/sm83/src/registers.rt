@@ -3,21 +3,7 @@ ghost use mathlib.Core.Path.{_≡_};
 ghost use Rattle.sm83.specs.State.{pairAF, pairBC, pairDE, pairHL, writeAF, writeBC, writeDE, writeHL};
 ghost use Rattle.sm83.specs.Flags.{flagZ, flagN, flagH, flagC};
 ghost use Rattle.sm83.specs.PowerOn.{registers-zero, registers-dmg, registers-cgb, registers-cgb-dmg};
-use crate::addr::Addr;
-
-// The order of the fields is the faster of those that were timed (docs/SPEED.md); nothing else depends on it.
-pub struct CpuRegisters {
-    pub a: u8,
-    pub b: u8,
-    pub c: u8,
-    pub sp: Addr,
-    pub f: u8,
-    pub d: u8,
-    pub e: u8,
-    pub h: u8,
-    pub l: u8,
-    pub pc: Addr,
-}
+use crate::Addr;
 
 impl CpuRegisters {
     // The four flags' places in F.
@@ -192,6 +178,7 @@ impl CpuRegisters {
 
 // Two bytes as one number, the high byte first.
 ghost use Prim.Native.Nat.{_+_, _*_};
+use crate::CpuRegisters;
 
 pub fn pair(high: u8, low: u8) -> u16
     ensures { λ r. ⌜ r ≡ high * 256 + low ⌝ }

@@ -1,29 +1,9 @@
 // The processor's state, with the two flags that the host sets and clears, and the four states at power-on.
 ghost use mathlib.Core.Path.{_≡_};
 ghost use Rattle.sm83.specs.PowerOn.{cpu-zero, cpu-dmg, cpu-cgb, cpu-cgb-dmg, awake-with};
-use crate::registers::CpuRegisters;
-
-pub enum HaltMode {
-    NotHalting,
-    HaltRunInterrupt,
-    HaltNoRunInterrupt,
-    HaltBug,
-}
-
-pub struct Cpu {
-    pub registers: CpuRegisters,
-    pub ime: bool,
-    // the EI latch, `enable_interrupt_next` in the Rust: IME is set before the next instruction
-    pub latch: bool,
-    // `halt_mode` in the Rust
-    pub halt: HaltMode,
-    // STOP sets it, the host clears it
-    pub stopped: bool,
-    // the host sets and clears it: HDMA is running
-    pub hdma: bool,
-    // `config.is_dmg` in the Rust
-    pub dmg: bool,
-}
+use crate::Cpu;
+use crate::CpuRegisters;
+use crate::HaltMode;
 
 impl Cpu {
     // Without a boot skip.

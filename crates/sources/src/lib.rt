@@ -5,21 +5,21 @@ ghost use Prim.Native.Nat.{ℕ};
 ghost use lib.Dec.{T};
 ghost use lib.ListN.{length};
 ghost use Rattle.definition.specs.Execution.{imm8, give};
-ghost use Rattle.operands.specs.declared.operand.OperandType.the-variants.{AddrHLDec, AddrHLInc, Imm8Signed, HighAddr8, Addr16};
+ghost use Rattle.operands.specs.declared.OperandType.the-variants.{AddrHLDec, AddrHLInc, Imm8Signed, HighAddr8, Addr16};
 ghost use Rattle.accesses.specs.Leads.{Leads};
 ghost use Rattle.mirror.specs.Operands.{readOperand};
 ghost use Rattle.operands.specs.Operand.{readable};
+use accesses::Val16;
 use accesses::access::high;
 use accesses::access::load;
-use accesses::answers::Val16;
-use accesses::answers::with_registers;
 use accesses::fetch::fetch_next_pc;
 use accesses::fetch::fetch16;
+use accesses::states::with_registers;
 use alu16::sign_extended;
 use memory::Port;
-use operands::operand::OperandType;
-use sm83::addr::Addr;
-use sm83::state::Cpu;
+use operands::OperandType;
+use sm83::Addr;
+use sm83::Cpu;
 
 fn read_hl_dec(cpu: Cpu, port: Port, mem: &mut [u8]) -> Val16
     requires { ⌜ length (now mem) ≡ 65536 ⌝ }

@@ -3,11 +3,11 @@ ghost use mathlib.Core.Path.{_≡_};
 ghost use lib.ListN.{length};
 ghost use Rattle.definition.specs.Execution.{push, pop};
 ghost use Rattle.accesses.specs.Leads.{Leads};
-use accesses::answers::Both;
-use accesses::answers::Val16;
+use accesses::Both;
+use accesses::Val16;
 use memory::Port;
+use sm83::Cpu;
 use sm83::registers::pair;
-use sm83::state::Cpu;
 
 pub fn stack_push(cpu: Cpu, port: Port, value: u16, mem: &mut [u8]) -> Both
     requires { ⌜ length (now mem) ≡ 65536 ⌝ }

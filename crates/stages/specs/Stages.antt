@@ -3,8 +3,8 @@ use mathlib.Core.Path.{_≡_}
 use mathlib.Core.Bool.{Bool}
 use mathlib.Core.List.{List}
 use Prim.Native.Nat.{ℕ}
-use Rattle.sm83.specs.declared.state.Cpu.{Cpu}
-use Rattle.sm83.specs.declared.state.HaltMode.the-variants.{NotHalting}
+use Rattle.sm83.specs.declared.Cpu.{Cpu}
+use Rattle.sm83.specs.declared.HaltMode.the-variants.{NotHalting}
 use Rattle.outcome.specs.declared.Outcome.{Outcome}
 use Rattle.outcome.specs.declared.Outcome.the-variants.{Normal, Halting, RunningInterrupt}
 use Rattle.sm83.specs.Basics.{if_then_else_}
@@ -12,7 +12,7 @@ use Rattle.definition.specs.Bus.{Ask, isInterrupt}
 use Rattle.sm83.specs.State.{setPC, setHalt}
 use Rattle.definition.specs.Execution.{Does, _>>=_, _>>_, give, state, wait, asked}
 use Rattle.definition.specs.Step.{Ended, isAsleep, isBug, instruction, awake, woken}
-use Rattle.instruction.specs.declared.instruction.Instruction.{Instruction}
+use Rattle.instruction.specs.declared.Instruction.{Instruction}
 use Rattle.memory.specs.declared.Port.{Port}
 use Rattle.memory.specs.World.{world, leads}
 use Rattle.mirror.specs.Mirror.{execRow}

@@ -6,19 +6,14 @@ ghost use Rattle.definition.specs.Bus.{isInterrupt, pending};
 ghost use Rattle.definition.specs.Step.{dispatch};
 ghost use Rattle.accesses.specs.Leads.{Leads};
 ghost use Rattle.stages.specs.Stages.{dispatched};
+use crate::Executed;
 use interrupts::peek_next_interrupt;
 use interrupts::vector;
 use interrupts::write_and_take;
 use memory::Port;
 use outcome::Outcome;
-use sm83::addr::Addr;
-use sm83::state::Cpu;
-
-pub struct Executed {
-    pub cpu: Cpu,
-    pub port: Port,
-    pub outcome: Outcome,
-}
+use sm83::Addr;
+use sm83::Cpu;
 
 // Which interrupt runs, or that it was cancelled.
 pub fn running(interrupt: u8) -> Outcome

@@ -4,17 +4,12 @@ ghost use mathlib.Core.Bool.{true};
 ghost use lib.ListN.{length};
 ghost use Rattle.definition.specs.Step.{isBug, isAsleep};
 ghost use Rattle.stages.specs.Stages.{Wakes};
-use accesses::answers::with_halt;
+use crate::Woken;
+use accesses::states::with_halt;
 use interrupts::peek_next_interrupt;
 use memory::Port;
-use sm83::state::Cpu;
-use sm83::state::HaltMode;
-
-pub struct Woken {
-    pub cpu: Cpu,
-    pub port: Port,
-    pub halting: bool,
-}
+use sm83::Cpu;
+use sm83::HaltMode;
 
 pub fn is_bug(halt: HaltMode) -> bool
     ensures { λ r. ⌜ r ≡ isBug halt ⌝ }

@@ -7,7 +7,7 @@ use native.Mathlib.Omega.{arith}
 use lib.Dec.{eqb}
 use lib.ListN.{length, getD}
 use borrow.Author.Tests.{le-leb, eq-eqb, ne-eqb}
-use Rattle.sm83.specs.declared.addr.Addr.{Addr}
+use Rattle.sm83.specs.declared.Addr.{Addr}
 use Rattle.outcome.specs.declared.Refusal.{Refusal}
 use Rattle.outcome.specs.declared.Refusal.the-variants.{JumpUnmarked}
 use Rattle.outcome.specs.declared.Verdict.{Verdict}

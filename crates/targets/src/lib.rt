@@ -11,7 +11,7 @@ use outcome::Verdict;
 use shapes::class::Class;
 use shapes::window::address;
 use shapes::window::shape_at;
-use sm83::addr::Addr;
+use sm83::Addr;
 use sm83::registers::pair;
 
 // A signed byte as a word.

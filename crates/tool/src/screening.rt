@@ -13,7 +13,7 @@ use saying::said;
 use saying::said::Env;
 use screen::screen::screen;
 use sentences::after;
-use sm83::addr::Addr;
+use sm83::Addr;
 
 fn mark(marks: &[u8], i: usize) -> bool {
     if i < marks.len() {

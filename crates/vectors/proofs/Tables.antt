@@ -2,7 +2,7 @@
 use mathlib.Core.Path.{_≡_, refl}
 use mathlib.Core.Bool.{true, false}
 use mathlib.Core.List.{List, [], _∷_, map}
-use Rattle.sm83.specs.declared.state.Cpu.{Cpu}
+use Rattle.sm83.specs.declared.Cpu.{Cpu}
 use Rattle.sm83.specs.PowerOn.{cpu-zero, cpu-dmg, cpu-cgb, cpu-cgb-dmg}
 use Rattle.vectors.specs.Vector.{cpuIn}
 use Rattle.vectors.specs.Table.{resultIn, daa-table, acc-table, alu-table, shift-table, count-table, sum-table, offset-table, tabulating}

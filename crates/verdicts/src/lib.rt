@@ -4,7 +4,7 @@ ghost use Rattle.verdicts.specs.ScreenBlock.{named, address, verdictByte
 use fields::bytes::flag_byte;
 use fields::bytes::put_word;
 use outcome::Verdict;
-use sm83::addr::Addr;
+use sm83::Addr;
 
 pub const VERDICT_LENGTH: usize = 4;
 

@@ -6,7 +6,7 @@ use outcome::Refusal;
 use outcome::Verdict;
 use shapes::window::address;
 use shapes::window::shape_at;
-use sm83::addr::Addr;
+use sm83::Addr;
 
 // 9: "the last instruction must be an unconditional JP, JR or RET"
 fn falls_through(mem: &[u8], last: Addr) -> Verdict

@@ -2,8 +2,8 @@
 use mathlib.Core.Bool.{Bool, true, false}
 use mathlib.Core.List.{List, [], _∷_}
 use Prim.Native.Nat.{ℕ}
-use Rattle.sm83.specs.declared.state.Cpu.{Cpu}
-use Rattle.sm83.specs.declared.state.HaltMode.the-variants.{HaltBug}
+use Rattle.sm83.specs.declared.Cpu.{Cpu}
+use Rattle.sm83.specs.declared.HaltMode.the-variants.{HaltBug}
 use Rattle.sm83.specs.State.{onRegisters, writeA, writeAF, setSP, setPC, setIme, setHalt}
 use Rattle.sm83.specs.PowerOn.{cpu-zero}
 use Rattle.worked.specs.Claim.{A, F, E, HL, SP, PC, H, C, IME, LATCH, OUTCOME, M-CYCLES, BYTE, _is_, written, zeros, Row, steps, passes}

@@ -1,4 +1,5 @@
 -- Shows the answer of a run that is refused, by search.
+use borrow.Author.Needs.{needs}
 use Rattle.run.proofs.refused.Statement.{statement}
 use Rattle.run.proofs.refused.Tie as tie
 

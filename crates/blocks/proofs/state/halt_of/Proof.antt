@@ -4,7 +4,7 @@ use mathlib.Core.Path.{sym}
 use mathlib.Core.List.{[], _∷_}
 use native.Mathlib.Omega.{arith}
 use lib.ListN.{List·getD-eq-default}
-use Rattle.sm83.specs.declared.state.HaltMode.the-variants.{NotHalting, HaltRunInterrupt, HaltNoRunInterrupt, HaltBug}
+use Rattle.sm83.specs.declared.HaltMode.the-variants.{NotHalting, HaltRunInterrupt, HaltNoRunInterrupt, HaltBug}
 use Rattle.blocks.proofs.state.halt_of.Statement.{statement}
 use Rattle.blocks.proofs.state.halt_of.Tie as tie
 

@@ -2,7 +2,7 @@
 use borrow.Author.Needs.{needs}
 use mathlib.Core.Path.{sym, subst, _∙_}
 use lib.Dec.{T}
-use Rattle.instruction.specs.declared.instruction.Instruction.{Instruction}
+use Rattle.instruction.specs.declared.Instruction.{Instruction}
 use Rattle.mirror.specs.Runnable.{runnable}
 use Rattle.fetching.proofs.Fetching.{executes}
 use Rattle.cpu.proofs.step.run_one.Statement.{statement}

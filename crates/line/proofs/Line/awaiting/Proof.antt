@@ -1,4 +1,5 @@
 -- Shows a line that waits for a value, by search.
+use borrow.Author.Needs.{needs}
 use Rattle.line.proofs.Line.awaiting.Statement.{statement}
 use Rattle.line.proofs.Line.awaiting.Tie as tie
 

@@ -1,4 +1,5 @@
 -- Shows a line with a mistake, by search.
+use borrow.Author.Needs.{needs}
 use Rattle.line.proofs.Line.mistaken.Statement.{statement}
 use Rattle.line.proofs.Line.mistaken.Tie as tie
 

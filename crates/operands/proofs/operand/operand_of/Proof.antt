@@ -2,7 +2,7 @@
 use mathlib.Core.Path.{sym}
 use lib.ListN.{List·getD-eq-default}
 use Rattle.operands.specs.Numbered.{operands}
-use Rattle.operands.specs.declared.operand.OperandType.the-variants as ot
+use Rattle.operands.specs.declared.OperandType.the-variants as ot
 use Rattle.operands.proofs.Matched.{past}
 use Rattle.operands.proofs.operand.operand_of.Statement.{statement}
 use Rattle.operands.proofs.operand.operand_of.Tie as tie

@@ -4,4 +4,4 @@ use Rattle.outcome.proofs.Verdict.number.Statement.{statement}
 use Rattle.outcome.proofs.Verdict.number.Tie as tie
 
 pub number-spec : {M : Type 1} → statement M
-number-spec = tie.close (tie.spec (λ c. search needs) (λ c. search needs) (λ c κs. search needs) (λ c. search needs) (λ c. search needs) (λ c. search needs) (λ c. search needs))
+number-spec = tie.close (tie.spec (λ c. search needs) (λ c. search needs) (λ c κs. search needs) (λ c. search needs) (λ c κs. search needs) (λ c. search needs) (λ c. search needs) (λ c. search needs))

@@ -1,0 +1,40 @@
+// An instruction of 001, from its byte and a lent table. Its address, which the Rust keeps in it, stands beside it here.
+ghost use mathlib.Core.Path.{_≡_};
+ghost use Rattle.opcodes.specs.Instruction.{decode, decodeCB};
+ghost use Rattle.instruction.specs.Row.{rowOf, prefixedRow};
+ghost use Rattle.instruction.specs.Entry.{rowAt, Plain, Prefixed};
+use crate::Instruction;
+use crate::numbered::opcode_of;
+use operands::conditions::condition_of;
+use operands::operand::operand_of;
+
+impl Instruction {
+    pub fn from_byte(table: &[u32; 256], byte: u8) -> Instruction
+        requires { ⌜ Plain (now table) ⌝ }
+        ensures { λ r. ⌜ r ≡ rowOf (decode byte) ⌝ }
+    {
+        Instruction::from_entry(table[byte as usize], byte)
+    }
+
+    pub fn from_prefix(table: &[u32; 256], byte: u8) -> Instruction
+        requires { ⌜ Prefixed (now table) ⌝ }
+        ensures { λ r. ⌜ r ≡ prefixedRow (decodeCB byte) ⌝ }
+    {
+        Instruction::from_entry(table[byte as usize], byte)
+    }
+
+    // What an entry of either table stands for. A step calls this once, whichever table the entry is from.
+    pub fn from_entry(entry: u32, byte: u8) -> Instruction
+        ensures { λ r. ⌜ r ≡ rowAt entry byte ⌝ }
+    {
+        let condition = condition_of((entry / 1024 % 8) as u8);
+        let opcode = opcode_of((entry / 8192 % 64) as u8, condition, byte);
+        let dest = operand_of((entry / 32 % 32) as u8);
+        let src = operand_of((entry % 32) as u8);
+        Instruction {
+            opcode: opcode,
+            src: src,
+            dest: dest,
+        }
+    }
+}

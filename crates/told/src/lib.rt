@@ -1,0 +1,26 @@
+// Whether what a step or a run answered and left is what a record of the sample says.
+ghost use mathlib.Core.Path.{_≡_};
+ghost use Prim.Native.Nat.{_≤_};
+ghost use lib.ListN.{length};
+ghost use Rattle.told.specs.Told.{leftAsTold};
+use fields::bytes::word_at;
+use same::same;
+
+// `want` is memory as the record says that it is left.
+pub fn as_told(
+    item: &[u8],
+    number: u16,
+    state: &[u8],
+    mem: &[u8],
+    want: &[u8],
+    answer: &[u8],
+) -> bool
+    requires { ⌜ 87 ≤ length (now item) ⌝ }
+    ensures { λ r. ⌜ r ≡ leftAsTold (now (item .entry)) number (now (state .entry)) (now (mem .entry)) (now (want .entry)) (now (answer .entry)) ⌝ }
+{
+    let numbered = number == word_at(item, 63);
+    let stated = same(state, &item[39..63]);
+    let kept = same(mem, want);
+    let answered = same(answer, &item[63..87]);
+    numbered & (stated & (kept & answered))
+}
