@@ -7,7 +7,8 @@ use lib.Dec.{eqb, leb}
 use Rattle.sm83.specs.declared.HaltMode.{HaltMode}
 use Rattle.sm83.specs.declared.HaltMode.the-variants.{NotHalting, HaltRunInterrupt, HaltNoRunInterrupt, HaltBug}
 use Rattle.sm83.specs.Basics.{bit, word, highByte, lowByte}
-use Rattle.blocks.specs.StateBlock.{haltNumber, haltAt, isFlag}
+use Rattle.wellformed.specs.Flags.{isFlag}
+use Rattle.blocks.specs.StateBlock.{haltNumber, haltAt}
 
 -- written and read
 

@@ -3,7 +3,7 @@
 use mathlib.Core.Bool.{Bool, _&&_}
 use mathlib.Core.List.{List, [], _∷_, _++_}
 use Prim.Native.Nat.{ℕ, _+_}
-use lib.Dec.{eqb, leb}
+use lib.Dec.{eqb}
 use lib.ListN.{length, getD}
 use Rattle.sm83.specs.declared.CpuRegisters.{CpuRegisters}
 use Rattle.sm83.specs.declared.Cpu.{Cpu}
@@ -14,6 +14,7 @@ use Rattle.definition.specs.Bus.{byteAt}
 use Rattle.sm83.specs.State.{registersOf}
 use Rattle.blocks.specs.declared.state.StateRead.{StateRead}
 use Rattle.blocks.specs.declared.state.StateRead.the-variants.{State, Malformed}
+use Rattle.wellformed.specs.Flags.{flagsWellFormed}
 use Rattle.fields.specs.Bytes.{filled}
 use Rattle.fields.specs.Registers.{registerBytes, registersAt}
 
@@ -36,14 +37,6 @@ abbrev pub stateBytes : Cpu → List ℕ → List ℕ
 stateBytes s block = filled 24 (stateFields s) block
 
 -- Reading.
-
--- a flag is 0 or 1
-abbrev pub isFlag : ℕ → Bool
-isFlag b = leb b 1
-
-abbrev pub flagsWellFormed : List ℕ → Bool
-flagsWellFormed block =
-    isFlag (byteAt block 12) && (isFlag (byteAt block 13) && (leb (byteAt block 14) 3 && (isFlag (byteAt block 15) && (isFlag (byteAt block 16) && isFlag (byteAt block 17)))))
 
 -- the length is 24, each of the five flags is 0 or 1, and the halt mode is not above 3
 abbrev pub wellFormed : List ℕ → Bool

@@ -2,12 +2,13 @@
 ghost use mathlib.Core.Path.{_≡_};
 ghost use Prim.Native.Nat.{_≤_};
 ghost use lib.ListN.{length};
-ghost use Rattle.blocks.specs.StateBlock.{haltNumber, haltAt, flagsWellFormed, stateAt, stateOf, stateBytes};
+ghost use Rattle.blocks.specs.StateBlock.{haltNumber, haltAt, stateAt, stateOf, stateBytes};
 use fields::bytes::flag_byte;
 use fields::bytes::front_registers;
 use fields::bytes::put_registers;
 use sm83::Cpu;
 use sm83::HaltMode;
+use wellformed::flags_well_formed;
 
 pub const STATE_LENGTH: usize = 24;
 
@@ -36,19 +37,6 @@ fn halt_of(n: u8) -> HaltMode
         2 => HaltMode::HaltNoRunInterrupt,
         _ => HaltMode::HaltBug,
     }
-}
-
-fn flags_well_formed(block: &[u8]) -> bool
-    requires { ⌜ 18 ≤ length (now block) ⌝ }
-    ensures { λ r. ⌜ r ≡ flagsWellFormed (now (block .entry)) ⌝ }
-{
-    let ime = block[12] <= 1;
-    let latch = block[13] <= 1;
-    let halt = block[14] <= 3;
-    let stopped = block[15] <= 1;
-    let hdma = block[16] <= 1;
-    let dmg = block[17] <= 1;
-    ime & (latch & (halt & (stopped & (hdma & dmg))))
 }
 
 fn state_at(block: &[u8]) -> Cpu

@@ -1,4 +1,4 @@
--- What one word says, and the end of the line. The mistakes: 1 no command, 2 an unknown one, 3 an unknown option, 4 an option that the command
+-- What one word says. The mistakes: 1 no command, 2 an unknown one, 3 an unknown option, 4 an option that the command
 -- does not have, 5 an option given twice, 6 its value is missing, 7 a word too many, 8 a word missing, 9 an unknown state, 10 a window the
 -- wrong way round, 12 to 17 a bad number (`number`), 18 an address above FFFF. The first mistake stays.
 use mathlib.Core.Bool.{Bool, true, false, _&&_, _||_, not}
@@ -9,6 +9,7 @@ use lib.ListN.{length, getD}
 use Rattle.text.specs.Page.{choose}
 use Rattle.line.specs.declared.Line.{Line}
 use Rattle.line.specs.Line.{line, slotOf, stored, mistaken, awaiting}
+use Rattle.finish.specs.Finish.{missing}
 use Rattle.names.specs.Names.{commandNumber, optionNumber}
 use Rattle.value.specs.Value.{takeValue}
 
@@ -20,12 +21,6 @@ allows command key =
     || (ltb command 4
     && ((ltb key 4 || (eqb command 1 && (eqb key 9 || eqb key 10)))
     || (not (eqb command 1) && not (eqb key 9 || eqb key 10) && (eqb command 2 || not (eqb key 7 || eqb key 11)))))
-
--- the first slot that a command has for a plain word and the line does not fill: IMAGE, and for screen FIRST and LAST; 13 if there is none
-unfoldable pub missing : Line → ℕ
-missing l =
-    choose (ltb (l .command) 4 && eqb (slotOf l 0) 0) 0
-    (choose (ltb (l .command) 2 && eqb (slotOf l 1) 0) 1 (choose (ltb (l .command) 2 && eqb (slotOf l 2) 0) 2 13))
 
 unfoldable pub takeOption : Line → ℕ → ℕ → Line
 takeOption l key index =
@@ -51,11 +46,3 @@ takeWord l word index =
     choose (ltb 0 (l .wrong)) l
     (choose (ltb 0 (l .awaits)) (takeValue l (l .awaits) word index)
     (choose (eqb (l .command) 0) (takeCommand l word index) (choose (isDashed word) (takeDashed l word index) (takePlain l word index))))
-
--- the end of the line
-unfoldable pub finished : Line → Line
-finished l =
-    choose (ltb 0 (l .wrong) || ltb 0 (slotOf l 12)) l
-    (choose (ltb 0 (l .awaits)) (mistaken l 6 (l .awaits) 0)
-    (choose (eqb (l .command) 0) (mistaken l 1 0 0)
-    (choose (ltb (missing l) 13) (mistaken l 8 (missing l) 0) (choose (ltb (slotOf l 2) (slotOf l 1)) (mistaken l 10 1 0) l))))

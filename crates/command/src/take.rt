@@ -1,19 +1,13 @@
-// One word of a command line, and its end. The first mistake stays.
+// One word of a command line. The first mistake stays.
 ghost use mathlib.Core.Path.{_≡_};
-ghost use Rattle.command.specs.Take.{allows, missing, isDashed, takeOption, takeDashed, takePlain, takeCommand, takeWord, finished};
+ghost use Rattle.command.specs.Take.{allows, isDashed, takeOption, takeDashed, takePlain, takeCommand, takeWord};
+use finish::missing;
 use line::ASKS_HELP;
-use line::FIRST;
-use line::IMAGE;
-use line::LAST;
 use line::Line;
 use line::MAP;
 use line::MARKS;
-use line::NO_COMMAND;
-use line::NO_VALUE;
-use line::NOT_GIVEN;
 use line::NOT_HERE;
 use line::OUT;
-use line::REVERSED;
 use line::RUN;
 use line::SCREEN;
 use line::STATE;
@@ -42,24 +36,6 @@ fn allows(command: u8, key: u8) -> bool
     let run = command == RUN;
     let machine = !screen & !screens & (run | !runs);
     help | known & (at | screen & screens | machine)
-}
-
-// The first slot that a command has for a plain word and the line does not fill; 13 if there is none.
-fn missing(line: Line) -> u8
-    ensures { λ r. ⌜ r ≡ missing line ⌝ }
-{
-    let known = line.command < VERSION;
-    let screen = line.command < RUN;
-    let no_image = known & (line.slot_of(IMAGE) == 0);
-    let no_first = screen & (line.slot_of(FIRST) == 0);
-    let no_last = screen & (line.slot_of(LAST) == 0);
-    if no_image {
-        return IMAGE;
-    }
-    if no_first {
-        return FIRST;
-    }
-    if no_last { LAST } else { 13 }
 }
 
 fn take_option(line: Line, key: u8, index: usize) -> Line
@@ -151,35 +127,4 @@ pub fn take(line: Line, word: &[u8], index: usize) -> Line
         return take_dashed(line, word, index);
     }
     take_plain(line, word, index)
-}
-
-// The end of the line.
-pub fn finish(line: Line) -> Line
-    ensures { λ r. ⌜ r ≡ finished line ⌝ }
-{
-    let bad = 0 < line.wrong;
-    let helps = 0 < line.slot_of(ASKS_HELP);
-    let settled = bad | helps;
-    if settled {
-        return line;
-    }
-    let awaits = line.awaits;
-    let awaited = 0 < awaits;
-    if awaited {
-        return line.mistaken(NO_VALUE, awaits, 0);
-    }
-    let nothing = line.command == 0;
-    if nothing {
-        return line.mistaken(NO_COMMAND, 0, 0);
-    }
-    let lacking = missing(line);
-    let lacks = lacking < 13;
-    if lacks {
-        return line.mistaken(NOT_GIVEN, lacking, 0);
-    }
-    let reversed = line.slot_of(LAST) < line.slot_of(FIRST);
-    if reversed {
-        return line.mistaken(REVERSED, FIRST, 0);
-    }
-    line
 }

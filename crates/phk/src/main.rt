@@ -2,8 +2,8 @@
 // the screen in `tool`, what the command line means in `command`; here the line is read and obeyed.
 mod machine;
 
-use command::take::finish;
 use command::take::take;
+use finish::finish;
 use line::ASKS_HELP;
 use line::HELP;
 use line::Line;

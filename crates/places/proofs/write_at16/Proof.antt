@@ -4,8 +4,8 @@ use Rattle.definition.specs.Bus.{Operand}
 use Rattle.definition.specs.Execution.{imm16, store}
 use Rattle.mirror.specs.Operands.{writeOperand}
 use Rattle.accesses.proofs.Leading.{after}
-use Rattle.destinations.proofs.write_at16.Statement.{statement}
-use Rattle.destinations.proofs.write_at16.Tie as tie
+use Rattle.places.proofs.write_at16.Statement.{statement}
+use Rattle.places.proofs.write_at16.Tie as tie
 
 returns : tie.Need-returns
 unfolding writeOperand

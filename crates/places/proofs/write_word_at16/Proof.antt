@@ -2,8 +2,8 @@
 use borrow.Author.Needs.{needs}
 use Rattle.mirror.specs.Operands.{writeOperand}
 use Rattle.accesses.proofs.Parts.{word-at-pc}
-use Rattle.destinations.proofs.write_word_at16.Statement.{statement}
-use Rattle.destinations.proofs.write_word_at16.Tie as tie
+use Rattle.places.proofs.write_word_at16.Statement.{statement}
+use Rattle.places.proofs.write_word_at16.Tie as tie
 
 returns : tie.Need-returns
 unfolding writeOperand

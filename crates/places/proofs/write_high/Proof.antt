@@ -4,8 +4,8 @@ use Rattle.definition.specs.Bus.{Operand}
 use Rattle.definition.specs.Execution.{imm8, store, high}
 use Rattle.mirror.specs.Operands.{writeOperand}
 use Rattle.accesses.proofs.Leading.{after, stored}
-use Rattle.destinations.proofs.write_high.Statement.{statement}
-use Rattle.destinations.proofs.write_high.Tie as tie
+use Rattle.places.proofs.write_high.Statement.{statement}
+use Rattle.places.proofs.write_high.Tie as tie
 
 returns : tie.Need-returns
 unfolding writeOperand

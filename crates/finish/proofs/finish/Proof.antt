@@ -1,8 +1,8 @@
 -- Each way through the tests, by what they found.
-use Rattle.command.specs.Take.{finished}
+use Rattle.finish.specs.Finish.{finished}
 use borrow.Author.Needs.{needs}
-use Rattle.command.proofs.take.finish.Statement.{statement}
-use Rattle.command.proofs.take.finish.Tie as tie
+use Rattle.finish.proofs.finish.Statement.{statement}
+use Rattle.finish.proofs.finish.Tie as tie
 
 returns : tie.Need-returns
 unfolding finished

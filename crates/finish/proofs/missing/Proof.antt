@@ -1,8 +1,8 @@
 -- Each way through the tests, by what they found.
-use Rattle.command.specs.Take.{missing}
+use Rattle.finish.specs.Finish.{missing}
 use borrow.Author.Needs.{needs}
-use Rattle.command.proofs.take.missing.Statement.{statement}
-use Rattle.command.proofs.take.missing.Tie as tie
+use Rattle.finish.proofs.missing.Statement.{statement}
+use Rattle.finish.proofs.missing.Tie as tie
 
 returns : tie.Need-returns
 unfolding missing

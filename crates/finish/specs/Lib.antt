@@ -1,0 +1,2 @@
+-- What a command line lacks, and its end.
+pub mod Finish

@@ -1,0 +1,2 @@
+-- When the flags of a state block are well formed.
+pub mod Flags
