@@ -1,33 +1,9 @@
-// Numbers as text: hexadecimal in upper case, decimal with no zero in front.
-ghost use mathlib.Core.Path.{_≡_};
+// Numbers as text: decimal with no zero in front.
 ghost use Prim.Native.Nat.{_<_};
 ghost use Rattle.text.specs.Page.{page, Wrote};
-ghost use Rattle.digits.specs.Digits.{glyph, hex2, hex4, digitAt, decimal};
+ghost use Rattle.digits.specs.Digits.{digitAt, decimal};
+use hex::glyph;
 use text::page::put_byte;
-
-fn glyph(d: u8) -> u8
-    requires { ⌜ d < 16 ⌝ }
-    ensures { λ r. ⌜ r ≡ glyph d ⌝ }
-{
-    let plain = d < 10;
-    if plain { 48 + d } else { 55 + d }
-}
-
-// A byte: two hexadecimal digits.
-pub fn put_hex2(out: &mut [u8], at: usize, b: u8) -> usize
-    ensures { λ r. ⌜ Wrote (page at (now (out .entry))) (hex2 b) (page r (now (out .exit))) ⌝ }
-{
-    let next = put_byte(out, at, glyph(b / 16));
-    put_byte(out, next, glyph(b % 16))
-}
-
-// An address or a word: four hexadecimal digits.
-pub fn put_hex4(out: &mut [u8], at: usize, w: u16) -> usize
-    ensures { λ r. ⌜ Wrote (page at (now (out .entry))) (hex4 w) (page r (now (out .exit))) ⌝ }
-{
-    let next = put_hex2(out, at, (w / 256) as u8);
-    put_hex2(out, next, (w % 256) as u8)
-}
 
 // One decimal digit, unless it is a zero in front.
 fn put_digit(out: &mut [u8], at: usize, n: u64, scale: u64) -> usize

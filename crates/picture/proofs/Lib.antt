@@ -1,4 +1,3 @@
 -- Laws over plain variables that the functions' proofs cite.
-pub mod Counting
 pub mod Drawing
 pub mod Passed

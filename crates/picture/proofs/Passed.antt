@@ -18,7 +18,7 @@ use Rattle.routine.proofs.Before.{window}
 use Rattle.routine.proofs.Answers.{when-passed}
 use Rattle.picture.specs.declared.kinds.Cell.{Cell}
 use Rattle.reading.specs.Opcode.{isJump}
-use Rattle.picture.specs.Counts.{startsAt, howMany, countsOf}
+use Rattle.tally.specs.Counts.{startsAt, howMany, countsOf}
 use Rattle.picture.specs.Kinds.{nowhere, cell, startKind, cellOf, cellAt, kindsFrom, kindsOf}
 
 abbrev pub isStart : ℕ → Bool

@@ -1,3 +1,2 @@
--- What the contracts of the counts and of the picture cite.
-pub mod Counts
+-- What the contract of the picture cites.
 pub mod Kinds

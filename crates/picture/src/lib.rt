@@ -1,3 +1,2 @@
-// What is counted and drawn of a window: its instructions and jumps, and the kind of each byte.
-pub mod counts;
+// What is drawn of a window: the kind of each of its bytes.
 pub mod kinds;

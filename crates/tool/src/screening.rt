@@ -5,7 +5,6 @@ use line::Line;
 use line::MAP;
 use line::MARKS;
 use outcome::Verdict;
-use picture::counts::count;
 use picture::kinds::draw;
 use saying::file::number;
 use saying::page::within;
@@ -14,6 +13,7 @@ use saying::said::Env;
 use screen::screen::screen;
 use sentences::after;
 use sm83::Addr;
+use tally::count;
 
 fn mark(marks: &[u8], i: usize) -> bool {
     if i < marks.len() {

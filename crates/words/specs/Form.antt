@@ -5,7 +5,8 @@ use Prim.Native.Nat.{ℕ, _+_, _/_, _%_}
 use lib.Dec.{eqb, ltb}
 use lib.ListN.{getD}
 use Rattle.text.specs.Page.{choose}
-use Rattle.digits.specs.Digits.{hex2, hex4, decimal}
+use Rattle.hex.specs.Hex.{hex2, hex4}
+use Rattle.digits.specs.Digits.{decimal}
 
 -- a flag's letter if its bit is set, else -
 abbrev pub flag : ℕ → ℕ → List ℕ

@@ -6,8 +6,8 @@ ghost use lib.ListN.{getD};
 ghost use Rattle.text.specs.Page.{page, Wrote};
 ghost use Rattle.words.specs.Form.{flag, flags, meant, takes, filled};
 use digits::put_decimal;
-use digits::put_hex2;
-use digits::put_hex4;
+use hex::put_hex2;
+use hex::put_hex4;
 use text::page::put;
 use text::page::put_byte;
 

@@ -5,7 +5,7 @@ use Prim.Native.Nat.{ℕ, zero, suc, _+_, _≤_}
 use native.Mathlib.Numerals.{add-one}
 use native.Mathlib.Omega.{arith}
 use Rattle.sm83.specs.Basics.{bit}
-use Rattle.picture.specs.Counts.{howMany}
+use Rattle.tally.specs.Counts.{howMany}
 
 bit-small : (b : Bool) → bit b ≤ 1
 bit-small true = omega arith

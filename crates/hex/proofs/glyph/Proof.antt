@@ -1,7 +1,7 @@
 -- Each way through the tests, by what they found.
 use borrow.Author.Needs.{needs}
-use Rattle.digits.proofs.glyph.Statement.{statement}
-use Rattle.digits.proofs.glyph.Tie as tie
+use Rattle.hex.proofs.glyph.Statement.{statement}
+use Rattle.hex.proofs.glyph.Tie as tie
 
 returns : tie.Need-returns
 returns c = simp (c .if1 .taken)

@@ -6,12 +6,12 @@ use Prim.Native.Nat.{ℕ, _≤_, _-_}
 use native.Mathlib.Omega.{arith}
 use lib.ListN.{length}
 use Rattle.sm83.specs.Basics.{bit}
-use Rattle.picture.specs.declared.counts.Counts.{Counts}
+use Rattle.tally.specs.declared.Counts.{Counts}
 use Rattle.reading.specs.Opcode.{isJump}
-use Rattle.picture.specs.Counts.{startsAt, jumpsAt, howMany, countsOf}
-use Rattle.picture.proofs.Counting.{none, bounded, one-more}
-use Rattle.picture.proofs.counts.count.Statement.{statement}
-use Rattle.picture.proofs.counts.count.Tie as tie
+use Rattle.tally.specs.Counts.{startsAt, jumpsAt, howMany, countsOf}
+use Rattle.tally.proofs.Counting.{none, bounded, one-more}
+use Rattle.tally.proofs.count.Statement.{statement}
+use Rattle.tally.proofs.count.Tie as tie
 
 abbrev Inv-loop : tie.InvT-loop
 Inv-loop mem first marks instructions₀ jumps₀ i₀ instructions jumps i = (i ≤ length marks) × (instructions ≡ howMany (startsAt marks) i) × (jumps ≡ howMany (jumpsAt mem (first .0) marks) i)

@@ -7,7 +7,7 @@ use lib.ListN.{getD, length}
 use Rattle.sm83.specs.Basics.{bit}
 use Rattle.definition.specs.Bus.{byteAt}
 use Rattle.reading.specs.Opcode.{isJump}
-use Rattle.picture.specs.declared.counts.Counts.{Counts}
+use Rattle.tally.specs.declared.Counts.{Counts}
 
 -- the byte at an index of the window: addresses wrap at 65,536
 abbrev pub byteIn : List ℕ → ℕ → ℕ → ℕ

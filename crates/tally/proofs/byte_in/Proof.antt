@@ -4,8 +4,8 @@ use Prim.Native.Nat.{ℕ, _+_, _%_}
 use native.Mathlib.Omega.{arith}
 use borrow.Author.Needs.{needs}
 use Rattle.definition.specs.Bus.{byteAt}
-use Rattle.picture.proofs.counts.byte_in.Statement.{statement}
-use Rattle.picture.proofs.counts.byte_in.Tie as tie
+use Rattle.tally.proofs.byte_in.Statement.{statement}
+use Rattle.tally.proofs.byte_in.Tie as tie
 
 returns : tie.Need-returns
 returns c =

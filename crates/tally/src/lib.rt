@@ -1,7 +1,7 @@
 // How many instructions the marks of a window show, and how many of these are jumps.
 ghost use mathlib.Core.Path.{_≡_};
 ghost use Rattle.sm83.specs.Basics.{bit};
-ghost use Rattle.picture.specs.Counts.{byteIn, countsOf};
+ghost use Rattle.tally.specs.Counts.{byteIn, countsOf};
 use reading::byte::byte;
 use reading::opcode::is_jump;
 use sm83::Addr;

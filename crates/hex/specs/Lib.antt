@@ -1,0 +1,2 @@
+-- What the contracts are stated with.
+pub mod Hex

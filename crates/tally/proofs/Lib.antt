@@ -1,0 +1,2 @@
+-- The law that the count cites.
+pub mod Counting

@@ -1,0 +1,2 @@
+-- What the counts are.
+pub mod Counts
