@@ -1,6 +1,5 @@
 // How far a run is, while it goes on, and how it ended: its last outcome, the registers, what changed in memory, the image that is saved.
 use crate::far::Far;
-use saying::file;
 use saying::said;
 use sentences::after;
 use sentences::byte;
@@ -58,7 +57,7 @@ pub fn saved(slot: u64, mem: &[u8], tells: bool, status: u8) -> u8 {
     if slot == 0 {
         return status;
     }
-    if file::save(slot, mem, tells) {
+    if files::save(slot, mem, tells) {
         status
     } else {
         said::REFUSED

@@ -1,5 +1,6 @@
 // Where a run starts, by what the command line says, and how far it has come.
 use ending::stopped;
+use files::number;
 use line::CGB;
 use line::CGB_DMG;
 use line::Line;
@@ -8,7 +9,6 @@ use line::SP;
 use line::STATE;
 use line::ZERO;
 use outcome::LastOutcome;
-use saying::file::number;
 use sm83::Addr;
 use sm83::Cpu;
 use sm83::CpuRegisters;

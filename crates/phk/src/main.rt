@@ -1,4 +1,4 @@
-// The field tool: phk screen, run, step, version and help. What it says and the files that it reads and writes are in `saying` and `sentences`,
+// The field tool: phk screen, run, step, version and help. What it says is in `saying` and `sentences`, the files that it reads and writes in `files`,
 // the screen in `tool`, what the command line means in `command`; here the line is read and obeyed.
 mod machine;
 
@@ -9,7 +9,6 @@ use line::HELP;
 use line::Line;
 use line::SCREEN;
 use line::VERSION;
-use saying::file;
 use saying::help;
 use saying::mistakes;
 use saying::said;
@@ -50,7 +49,7 @@ fn obey(line: Line, env: Env) -> u8 {
         return said::DONE;
     }
     let mut mem = io::large_buffer();
-    let loaded = file::load(line, &mut mem);
+    let loaded = files::load(line, &mut mem);
     if !loaded {
         return said::REFUSED;
     }

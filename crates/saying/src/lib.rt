@@ -1,5 +1,4 @@
-// What the field tool says and reads: forms filled in and written, its mistakes and help, the files that it reads and writes.
-pub mod file;
+// What the field tool says: forms filled in and written, its mistakes and help.
 pub mod help;
 pub mod mistakes;
 pub mod page;

@@ -1,4 +1,5 @@
 // phk screen: the verdict, the marks and the map.
+use files::number;
 use line::FIRST;
 use line::LAST;
 use line::Line;
@@ -6,7 +7,6 @@ use line::MAP;
 use line::MARKS;
 use outcome::Verdict;
 use picture::kinds::draw;
-use saying::file::number;
 use saying::page::within;
 use saying::said;
 use saying::said::Env;

@@ -1,9 +1,9 @@
 // The image is read, and memory is written to a new file that is renamed into place.
-use crate::mistakes;
-use crate::page::within;
 use line::AT;
 use line::IMAGE;
 use line::Line;
+use saying::mistakes;
+use saying::page::within;
 use text::page::put;
 
 // A slot's number; the slot holds one more.
