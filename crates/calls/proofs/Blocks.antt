@@ -11,8 +11,8 @@ use Rattle.sm83.specs.Basics.{if_then_else_}
 use Rattle.definition.specs.Bus.{plain}
 use Rattle.outcome.specs.Numbers.{lastNumber}
 use Rattle.definition.specs.Run.{RunAnswer, runFor}
-use Rattle.repeat.specs.declared.Ran.{Ran}
-use Rattle.repeat.specs.Ran.{answer}
+use Rattle.ending.specs.declared.Ran.{Ran}
+use Rattle.ending.specs.Ran.{answer}
 use Rattle.blocks.specs.declared.state.StateRead.{StateRead}
 use Rattle.blocks.specs.declared.state.StateRead.the-variants.{State, Malformed}
 use Rattle.blocks.specs.StateBlock.{stateOf, stateBytes}

@@ -1,9 +1,20 @@
-// Which outcomes end a run.
+// What a run answers, which outcomes end it, and a run that is refused before it begins.
 ghost use mathlib.Core.Path.{_≡_};
-ghost use Rattle.definition.specs.Run.{stopsRun};
+ghost use Rattle.definition.specs.Run.{stopsRun, notRun};
+ghost use Rattle.ending.specs.Ran.{answer};
 ghost use Rattle.ending.specs.Stopped.{stoppedBy};
 use outcome::LastOutcome;
 use outcome::Outcome;
+use outcome::Refusal;
+use sm83::Cpu;
+use sm83::MCycles;
+
+pub struct Ran {
+    pub last: LastOutcome,
+    pub cpu: Cpu,
+    pub steps: u16,
+    pub cycles: MCycles,
+}
 
 // After InfiniteLoop, Breakpoint, Stopped or a refusal.
 pub fn stops(outcome: Outcome) -> bool
@@ -28,5 +39,17 @@ pub fn stopped(last: LastOutcome) -> bool
     match last {
         LastOutcome::NothingRun => false,
         LastOutcome::Last(outcome) => stops(outcome),
+    }
+}
+
+// Everything is left as it came, and costs nothing.
+pub fn refused(cpu: Cpu, refusal: Refusal, mem: &mut [u8]) -> Ran
+    ensures { λ r. ⌜ answer r (now (mem .exit)) ≡ notRun refusal cpu (now (mem .entry)) ⌝ }
+{
+    Ran {
+        last: LastOutcome::Last(Outcome::Refused(refusal)),
+        cpu: cpu,
+        steps: 0,
+        cycles: MCycles(0),
     }
 }

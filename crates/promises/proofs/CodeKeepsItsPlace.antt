@@ -16,9 +16,9 @@ use Rattle.routine.specs.Screen.{isMarked, screen}
 use Rattle.routine.specs.Trace.{Quiet, isFine, isFineLast, SameWindow, stateAt, GoesOn, StaysToTheLast, StaysToTheEnd}
 use Rattle.routine.proofs.Before.{window}
 use Rattle.routine.proofs.PassedRoutine.{demand-3, demand-3-run, demand-3-run-ends}
-use Rattle.repeat.specs.declared.Ran.{Ran}
+use Rattle.ending.specs.declared.Ran.{Ran}
 use Rattle.run.specs.declared.Stepped.{Stepped}
-use Rattle.repeat.specs.Ran.{answer}
+use Rattle.ending.specs.Ran.{answer}
 use Rattle.run.specs.Answers.{Answers}
 
 -- A memory, a window of it, the marks as they were lent; the verdict and the marks that `screen` answered, by its contract.

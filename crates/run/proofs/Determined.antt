@@ -7,9 +7,9 @@ use Rattle.sm83.specs.declared.Cpu.{Cpu}
 use Rattle.outcome.specs.declared.Outcome.{Outcome}
 use Rattle.definition.specs.Bus.{plain}
 use Rattle.definition.specs.Run.{RunAnswer, runFor}
-use Rattle.repeat.specs.declared.Ran.{Ran}
+use Rattle.ending.specs.declared.Ran.{Ran}
 use Rattle.run.specs.declared.Stepped.{Stepped}
-use Rattle.repeat.specs.Ran.{answer}
+use Rattle.ending.specs.Ran.{answer}
 use Rattle.run.specs.Answers.{Answers}
 
 -- the code's answer again, from the definition's

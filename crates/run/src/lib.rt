@@ -1,32 +1,24 @@
 // The run with its budget, and the step. Any state, any slice.
 ghost use mathlib.Core.Path.{_≡_};
 ghost use Rattle.definition.specs.Bus.{plain};
-ghost use Rattle.definition.specs.Run.{notRun, runFor};
-ghost use Rattle.repeat.specs.Ran.{answer};
+ghost use Rattle.definition.specs.Run.{runFor};
+ghost use Rattle.ending.specs.Ran.{answer};
 ghost use Rattle.run.specs.Answers.{outcomeOf, Answers};
+use crate::repeat::repeat;
+use ending::Ran;
+use ending::refused;
 use outcome::LastOutcome;
 use outcome::Outcome;
 use outcome::Refusal;
-use repeat::Ran;
-use repeat::repeat;
 use sm83::Cpu;
 use sm83::MCycles;
+
+mod repeat;
 
 pub struct Stepped {
     pub outcome: Outcome,
     pub cpu: Cpu,
     pub cycles: MCycles,
-}
-
-fn refused(cpu: Cpu, refusal: Refusal, mem: &mut [u8]) -> Ran
-    ensures { λ r. ⌜ answer r (now (mem .exit)) ≡ notRun refusal cpu (now (mem .entry)) ⌝ }
-{
-    Ran {
-        last: LastOutcome::Last(Outcome::Refused(refusal)),
-        cpu: cpu,
-        steps: 0,
-        cycles: MCycles(0),
-    }
 }
 
 pub fn run(cpu: Cpu, mem: &mut [u8], budget: u16) -> Ran

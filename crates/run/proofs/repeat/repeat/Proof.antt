@@ -3,9 +3,9 @@ use borrow.Author.Needs.{needs}
 use mathlib.Core.Path.{refl, sym, _∙_}
 use Prim.Native.Nat.{_-_}
 use native.Mathlib.Omega.{arith}
-use Rattle.repeat.proofs.Repeating.{Going, starts, ends, stops-early, goes-on}
-use Rattle.repeat.proofs.repeat.Statement.{statement}
-use Rattle.repeat.proofs.repeat.Tie as tie
+use Rattle.run.proofs.Repeating.{Going, starts, ends, stops-early, goes-on}
+use Rattle.run.proofs.repeat.repeat.Statement.{statement}
+use Rattle.run.proofs.repeat.repeat.Tie as tie
 
 abbrev Inv-loop : tie.InvT-loop
 Inv-loop mem₀ budget table prefixed s₀ p₀ last₀ n₀ mem s p last n = Going budget s₀ mem₀ s mem p last n

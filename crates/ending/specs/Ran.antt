@@ -2,7 +2,7 @@
 use mathlib.Core.List.{List}
 use Prim.Native.Nat.{ℕ}
 use Rattle.definition.specs.Run.{RunAnswer}
-use Rattle.repeat.specs.declared.Ran.{Ran}
+use Rattle.ending.specs.declared.Ran.{Ran}
 
 abbrev pub answer : Ran → List ℕ → RunAnswer (List ℕ)
 answer r m = record { last = r .last; cpu = r .cpu; memory = m; steps = r .steps; cycles = r .cycles .0 }

@@ -6,8 +6,9 @@ ghost use Rattle.outcome.specs.declared.LastOutcome.the-variants.{NothingRun};
 ghost use Rattle.sm83.specs.State.{flags};
 ghost use Rattle.definition.specs.Bus.{plain};
 ghost use Rattle.definition.specs.Run.{repeated};
-ghost use Rattle.repeat.specs.Ran.{answer};
+ghost use Rattle.ending.specs.Ran.{answer};
 use cpu::step::next_instruction;
+use ending::Ran;
 use ending::stops;
 use memory::Port;
 use outcome::LastOutcome;
@@ -15,13 +16,6 @@ use sm83::Cpu;
 use sm83::MCycles;
 use tables::instructions_table::instructions;
 use tables::prefixed_table::prefixed_instructions;
-
-pub struct Ran {
-    pub last: LastOutcome,
-    pub cpu: Cpu,
-    pub steps: u16,
-    pub cycles: MCycles,
-}
 
 pub fn repeat(cpu: Cpu, mem: &mut [u8], budget: u16) -> Ran
     requires { ⌜ length (now mem) ≡ 65536 ⌝ }

@@ -1,2 +1,0 @@
--- One more step of a run.
-pub mod Repeating

@@ -1,2 +1,0 @@
--- What the contract of the loop is stated with.
-pub mod Ran
