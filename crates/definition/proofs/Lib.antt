@@ -19,17 +19,10 @@ pub mod Parts
 pub mod Runs
 pub mod Stops
 pub mod Stopping
--- every register in its range, every byte a byte, no length changed
-pub mod Ranged
-pub mod Keeping
-pub mod KeepingExecution
-pub mod KeepingStep
-pub mod Ranges
 -- which of the seven points a step takes; refusals; interrupts
 pub mod Interrupts
 pub mod Course
 pub mod PlainCourse
 pub mod NeverRefuses
 pub mod Refusals
-pub mod RefusesOnly
 pub mod Dispatch

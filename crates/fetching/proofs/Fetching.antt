@@ -14,7 +14,7 @@ use Rattle.sm83.specs.State.{pc, setPC, setIme, setLatch, setHalt}
 use Rattle.opcodes.specs.Instruction.{decode, decodeCB}
 use Rattle.definition.specs.Execution.{Does, _>>_, byteAtPC, imm8, prefixed, normal, execute}
 use Rattle.definition.specs.Step.{Ended, isBug, enabled, fetched, instruction}
-use Rattle.definition.proofs.Ranges.{Bytes}
+use Rattle.ranges.proofs.Ranges.{Bytes}
 use Rattle.instruction.specs.declared.Instruction.{Instruction}
 use Rattle.instruction.specs.Row.{rowOf, prefixedRow}
 use Rattle.memory.specs.declared.Port.{Port}

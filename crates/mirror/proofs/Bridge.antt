@@ -17,7 +17,7 @@ use Rattle.memory.specs.declared.Port.{Port}
 use Rattle.memory.specs.World.{world, leads}
 use Rattle.mirror.specs.Mirror.{execRow, mirroring}
 use Rattle.mirror.specs.Runnable.{runnable}
-use Rattle.definition.proofs.Ranges.{Bytes}
+use Rattle.ranges.proofs.Ranges.{Bytes}
 use Rattle.mirror.proofs.Small.{ByteRegisters}
 use Rattle.mirror.proofs.BridgeWork.{work-row}
 use Rattle.mirror.proofs.BridgeJump.{jump-row}

@@ -15,7 +15,7 @@ use Rattle.memory.specs.declared.Port.{Port}
 use Rattle.memory.specs.World.{world, leads, counted}
 use Rattle.mirror.specs.Operands.{readOperand, writeOperand}
 use Rattle.mirror.specs.Mirror.{mirroring}
-use Rattle.definition.proofs.Ranges.{Bytes}
+use Rattle.ranges.proofs.Ranges.{Bytes}
 use Rattle.mirror.proofs.Small.{ByteRegisters, kept}
 
 -- equal trees lead to equal ends

@@ -19,8 +19,8 @@ use Rattle.memory.specs.declared.Port.{Port}
 use Rattle.memory.specs.World.{world, leads}
 use Rattle.mirror.specs.Operands.{writeOperand}
 use Rattle.mirror.specs.Mirror.{compute, execRow, mirroring}
-use Rattle.definition.proofs.Ranged.{shift-sound, cleared-byte, raised-byte}
-use Rattle.definition.proofs.Ranges.{Bytes}
+use Rattle.ranges.proofs.Ranged.{shift-sound, cleared-byte, raised-byte}
+use Rattle.ranges.proofs.Ranges.{Bytes}
 use Rattle.mirror.proofs.Small.{ByteRegisters, kept}
 use Rattle.mirror.proofs.Bridge8.{on, reads, writes, written}
 

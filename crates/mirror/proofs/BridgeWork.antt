@@ -21,8 +21,8 @@ use Rattle.memory.specs.declared.Port.{Port}
 use Rattle.memory.specs.World.{world, leads, counted}
 use Rattle.mirror.specs.Operands.{readOperand, writeOperand}
 use Rattle.mirror.specs.Mirror.{compute, execRow, mirroring}
-use Rattle.definition.proofs.Ranged.{alu-sound}
-use Rattle.definition.proofs.Ranges.{Bytes}
+use Rattle.ranges.proofs.Ranged.{alu-sound}
+use Rattle.ranges.proofs.Ranges.{Bytes}
 use Rattle.mirror.proofs.Small.{ByteRegisters, kept, signed-low}
 use Rattle.mirror.proofs.Bridge8.{on, reads, writes, written}
 

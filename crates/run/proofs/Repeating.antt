@@ -17,7 +17,7 @@ use Rattle.definition.specs.Run.{RunAnswer, stopsRun, thenRest, repeated}
 use Rattle.opcodes.proofs.Choices.{if-so, if-not}
 use Rattle.definition.proofs.StepRuns.{accepted-step}
 use Rattle.definition.proofs.StepCycles.{accepted-one-to-eight}
-use Rattle.definition.proofs.Ranges.{Bytes, InRange, plain-lawful, step-ranges, step-length}
+use Rattle.ranges.proofs.Ranges.{Bytes, InRange, plain-lawful, step-ranges, step-length}
 use Rattle.memory.specs.declared.Port.{Port}
 use Rattle.memory.specs.World.{Led, world, leads}
 use Rattle.memory.proofs.Counted.{same-value, same-bytes, counts}

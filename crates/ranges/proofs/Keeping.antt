@@ -5,12 +5,12 @@ use native.Mathlib.Omega.{arith}
 use Rattle.sm83.specs.declared.CpuRegisters.{CpuRegisters}
 use Rattle.sm83.specs.declared.Cpu.{Cpu}
 use Rattle.sm83.specs.Basics.{if_then_else_, word, highByte, lowByte, next, back}
 use Rattle.definition.specs.Bus.{Kind, Operand, Stack, Ask, answer, read, write, idle, peek, writeAndTake}
 use Rattle.sm83.specs.State.{pairAF, pairBC, pairDE, pairHL, writeA, writeF, writeSP, writePC, putBC, putDE, putHL, writeBC, writeDE, writeHL, writeAF, onRegisters}
 use Rattle.opcodes.specs.Arithmetic.{Result}
 use Rattle.opcodes.specs.Instruction.{Reg8, rB, rC, rD, rE, rH, rL, [HL], rA, Reg16, rBC, rDE, rHL, rSP, Stacked, pBC, pDE, pHL, pAF, Pointer, [BC], [DE], [HL+], [HL-]}
 use Rattle.definition.specs.Execution.{Does, _>>=_, _>>_, give, state, change, reg, setReg, load, store, wait, asked, byteAtPC, imm8, imm16, get8, put8, get16, put16, getStacked, putStacked, pointed, moved, push, pop, intoA, into8}
-use Rattle.definition.proofs.Ranged.{Ranged, Flags, Sound, ranged-a, ranged-f, ranged-sp, ranged-pc, ranged-bc, ranged-de, ranged-hl}
+use Rattle.ranges.proofs.Ranged.{Ranged, Flags, Sound, ranged-a, ranged-f, ranged-sp, ranged-pc, ranged-bc, ranged-de, ranged-hl}
 
 abbrev pub Byte : ℕ → Type 0
 Byte v = v < 256

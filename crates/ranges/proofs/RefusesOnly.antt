@@ -14,21 +14,21 @@ use Rattle.outcome.specs.declared.Refusal.the-variants.{MemoryLength, LowBitsOf
 use Rattle.outcome.specs.declared.Outcome.{Outcome}
 use Rattle.outcome.specs.declared.Outcome.the-variants.{Normal, InfiniteLoop, Halting, RunningHDMA, Stopped, RunningInterrupt, Breakpoint, Refused}
 use Rattle.sm83.specs.Basics.{if_then_else_, highByte, back}
 use Rattle.definition.specs.Bus.{Access, Fetch, Stack, Bus, Ran, runOn, isInterrupt, byteAt, plain}
 use Rattle.sm83.specs.State.{pc, sp, flags}
 use Rattle.opcodes.specs.Instruction.{Instruction, does, goes, CB-prefix, HALT, STOP, EI, LD-B-B, ILLEGAL, decode}
 use Rattle.definition.specs.Execution.{execute}
 use Rattle.definition.specs.Step.{enabled, fetched, instruction, Ended, ended, Admission, accepted, refusedAs, admitted, stepOn}
 use Rattle.outcome.specs.Numbers.{numberOf}
 use Rattle.definition.specs.Run.{runFor}
 use Rattle.outcome.specs.declared.LastOutcome.the-variants.{Last}
 use Rattle.definition.proofs.Course.{Woke, Passed, Course, point1, point2, point3, point4, points5to7, course, woke-pc}
 use Rattle.definition.proofs.NeverRefuses.{refuses, never-run, execute-never}
 use Rattle.opcodes.proofs.Illegal.{isIllegal, illegal-is}
 use Rattle.definition.proofs.Refusals.{pc-enabled, accepts}
 use Rattle.definition.proofs.PlainCourse.{woke-same, passed-same}
 use Rattle.definition.proofs.Runs.{LastSays, run-keeps}
-use Rattle.definition.proofs.Ranges.{Lawful, Sized, InRange, step-ranges, step-size}
+use Rattle.ranges.proofs.Ranges.{Lawful, Sized, InRange, step-ranges, step-size}
 
 -- Why a step may answer a refusal, by its number.
 pub data Why {W : Type 0} (b : Bus W) (s : Cpu) (m : W) : ℕ → Type 0 where

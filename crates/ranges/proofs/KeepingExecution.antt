@@ -8,17 +8,17 @@ use Rattle.outcome.specs.declared.Outcome.{Outcome}
 use Rattle.outcome.specs.declared.Refusal.the-variants.{IllegalOpcode}
 use Rattle.outcome.specs.declared.Outcome.the-variants.{Normal, InfiniteLoop, Halting, RunningHDMA, Stopped, RunningInterrupt, Breakpoint, Refused}
 use Rattle.sm83.specs.Basics.{if_then_else_, bitAt, highByte, lowByte, next, back, offset, cleared, raised}
 use Rattle.definition.specs.Bus.{Fetch, Operand, isInterrupt}
 use Rattle.sm83.specs.State.{setIme, setLatch, setHalt, setStopped}
 use Rattle.sm83.specs.Flags.{flagZ, flagC}
 use Rattle.opcodes.specs.Arithmetic.{isZero, holds, aluOp, accOp, shiftOp, increment, decrement, bitTest, wordSumFlags, offsetFlags}
 use Rattle.opcodes.specs.Instruction.{Cond, Work, NOP, DI, LD-r8-r8, LD-r8-n8, LD-r16-n16, LD-[r16]-A, LD-A-[r16], LD-[n16]-A, LD-A-[n16], LDH-[n8]-A, LDH-A-[n8], LDH-[C]-A, LDH-A-[C], LD-[n16]-SP, LD-SP-HL, LD-HL-SP+e8, ADD-SP-e8, ALU-A-r8, ALU-A-n8, ACC, INC-r8, DEC-r8, INC-r16, DEC-r16, ADD-HL-r16, PUSH-r16, POP-r16}
 use Rattle.opcodes.specs.Instruction.{Jump, JP-n16, JP-HL, JR-e8, CALL-n16, RET, RETI, JP-cc-n16, JR-cc-e8, CALL-cc-n16, RET-cc, RST-vec}
 use Rattle.opcodes.specs.Instruction.{Instruction, does, goes, CB-prefix, HALT, STOP, EI, LD-B-B, ILLEGAL, Prefixed, SHIFT-r8, BIT-u3-r8, RES-u3-r8, SET-u3-r8, decodeCB}
 use Rattle.definition.specs.Execution.{Does, high, work, prefixed, normal, goFrom, call, return, onlyIf, jump, halt, execute}
 use Rattle.opcodes.proofs.Tested.{at}
-use Rattle.definition.proofs.Ranged.{Ranged, Flags, flags-sound, alu-sound, shift-sound, acc-sound, increment-sound, decrement-sound, cleared-byte, raised-byte}
-use Rattle.definition.proofs.Keeping.{Byte, Place, Any, Keeps, _⟫=_, _⟫_, given, said, changed, registers-say, loaded, stored, waited, peeked, either-keeps, set-a, set-f, set-sp, set-pc, set-hl, a-said, f-said, sp-said, pc-said, hl-said, byte-keeps, imm8-keeps, imm16-keeps, get8-keeps, put8-keeps, get16-keeps, put16-keeps, getStacked-keeps, putStacked-keeps, pointed-keeps, moved-keeps, push-keeps, pop-keeps, intoA-keeps, into8-keeps}
+use Rattle.ranges.proofs.Ranged.{Ranged, Flags, flags-sound, alu-sound, shift-sound, acc-sound, increment-sound, decrement-sound, cleared-byte, raised-byte}
+use Rattle.ranges.proofs.Keeping.{Byte, Place, Any, Keeps, _⟫=_, _⟫_, given, said, changed, registers-say, loaded, stored, waited, peeked, either-keeps, set-a, set-f, set-sp, set-pc, set-hl, a-said, f-said, sp-said, pc-said, hl-said, byte-keeps, imm8-keeps, imm16-keeps, get8-keeps, put8-keeps, get16-keeps, put16-keeps, getStacked-keeps, putStacked-keeps, pointed-keeps, moved-keeps, push-keeps, pop-keeps, intoA-keeps, into8-keeps}
 
 offset-flags : (w e : ℕ) → Flags (offsetFlags w e)
 offset-flags w e = flags-sound false false (leb 16 (w % 16 + e % 16)) (leb 256 (w % 256 + e))

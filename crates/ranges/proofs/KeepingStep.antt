@@ -9,14 +9,14 @@ use Rattle.sm83.specs.declared.Cpu.{Cpu}
 use Rattle.sm83.specs.declared.HaltMode.the-variants.{NotHalting}
 use Rattle.outcome.specs.declared.Outcome.the-variants.{Normal, Halting, RunningHDMA, Stopped, RunningInterrupt}
 use Rattle.sm83.specs.Basics.{if_then_else_, highByte, lowByte, next, back}
 use Rattle.definition.specs.Bus.{Fetch, Stack, isInterrupt}
 use Rattle.sm83.specs.State.{pc, sp, setPC, setSP, setIme, setLatch, setHalt}
 use Rattle.opcodes.specs.Instruction.{decode}
 use Rattle.definition.specs.Step.{isAsleep, isBug, vector, storeAndTake, dispatch, enabled, fetched, instruction, awake, woken, step}
 use Rattle.opcodes.proofs.Tested.{at}
-use Rattle.definition.proofs.Ranged.{Ranged, ranged-pc, ranged-sp}
-use Rattle.definition.proofs.Keeping.{Byte, Place, Keeps, _⟫=_, _⟫_, given, said, changed, loaded, stored, waited, peeked, either-keeps}
-use Rattle.definition.proofs.KeepingExecution.{vectorInRange, OutcomeRanged, execute-keeps}
+use Rattle.ranges.proofs.Ranged.{Ranged, ranged-pc, ranged-sp}
+use Rattle.ranges.proofs.Keeping.{Byte, Place, Keeps, _⟫=_, _⟫_, given, said, changed, loaded, stored, waited, peeked, either-keeps}
+use Rattle.ranges.proofs.KeepingExecution.{vectorInRange, OutcomeRanged, execute-keeps}
 
 vector-place : (i : ℕ) → Place (vector i)
 vector-place zero = omega arith

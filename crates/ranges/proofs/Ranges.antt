@@ -10,15 +10,15 @@ use lib.Seq.{getD-set-same, getD-set-other, set-out}
 use borrow.Author.Tests.{ltb-true, ltb-false, eqb-true, eqb-false}
 use Rattle.sm83.specs.declared.Cpu.{Cpu}
 use Rattle.sm83.specs.Basics.{if_then_else_, cleared}
 use Rattle.definition.specs.Bus.{Kind, Stack, Ask, answer, read, write, idle, peek, writeAndTake, Bus, runOn, byteAt, isInterrupt, pending, taken, plain}
 use Rattle.definition.specs.Step.{Ended, ended, stepTree, Admission, accepted, refusedAs, admission, admitted, stepOn}
 use Rattle.definition.specs.Run.{runFor}
-use Rattle.definition.proofs.Ranged.{Ranged, cleared-byte}
+use Rattle.ranges.proofs.Ranged.{Ranged, cleared-byte}
 use Rattle.definition.proofs.Interrupts.{pending-most}
-use Rattle.definition.proofs.Keeping.{Safe}
-use Rattle.definition.proofs.KeepingExecution.{OutcomeRanged}
-use Rattle.definition.proofs.KeepingStep.{step-keeps}
+use Rattle.ranges.proofs.Keeping.{Safe}
+use Rattle.ranges.proofs.KeepingExecution.{OutcomeRanged}
+use Rattle.ranges.proofs.KeepingStep.{step-keeps}
 use Rattle.definition.proofs.Runs.{LastSays, run-keeps}
 
 -- A memory whose length no access changes.
 pub record Sized {W : Type 0} (b : Bus W) : Type 0 where
