@@ -1,5 +1,7 @@
 // Replays the stored sample: replay FILE. Each record is asked of the core and every value compared; then what was met is counted.
 mod rounds;
+mod runs;
+mod sample;
 
 use libc::STDERR_FILENO;
 use libc::STDOUT_FILENO;

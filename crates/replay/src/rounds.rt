@@ -3,7 +3,8 @@ ghost use mathlib.Core.Path.{_≡_};
 ghost use mathlib.Core.Bool.{not};
 ghost use Prim.Native.Nat.{_+_, _≤_};
 ghost use Rattle.sm83.specs.Basics.{bit};
-ghost use Rattle.sample.specs.Replay.{agrees, differs};
+ghost use Rattle.replay.specs.Replay.{agrees, differs};
+use crate::sample::agrees;
 use fields::bytes::word_at;
 use records::front::front_size;
 use records::notes::note;
@@ -12,7 +13,7 @@ use report::said::say_differs;
 use report::said::say_rest;
 use report::said::say_row;
 use report::said::say_short;
-use sample::agrees;
+use told::one_unless;
 
 // 1 if the core does not agree with the record, which is then named.
 fn round(
@@ -28,11 +29,12 @@ fn round(
     note(item, mem, counts);
     let same = agrees(item, mem, other);
     say_row(item, same);
+    let one = one_unless(same);
     if same {
-        return 0;
+        return one;
     }
     say_differs(before, at);
-    1
+    one
 }
 
 // How many records the core does not agree with. A record that is cut short, and a rest behind the last one, count as one.

@@ -1,7 +1,9 @@
-// Whether what a step or a run answered and left is what a record of the sample says.
+// Whether what a step or a run answered and left is what a record of the sample says, and how that is counted.
+ghost use mathlib.Core.Bool.{not};
 ghost use mathlib.Core.Path.{_≡_};
 ghost use Prim.Native.Nat.{_≤_};
 ghost use lib.ListN.{length};
+ghost use Rattle.sm83.specs.Basics.{bit};
 ghost use Rattle.told.specs.Told.{leftAsTold};
 use fields::bytes::word_at;
 use same::same;
@@ -23,4 +25,11 @@ pub fn as_told(
     let kept = same(mem, want);
     let answered = same(answer, &item[63..87]);
     numbered & (stated & (kept & answered))
+}
+
+// How much a record adds to the differences.
+pub fn one_unless(same: bool) -> usize
+    ensures { λ r. ⌜ (r ≡ bit (not same)) × (r ≤ 1) ⌝ }
+{
+    if same { 0 } else { 1 }
 }

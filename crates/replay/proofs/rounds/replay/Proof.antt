@@ -4,8 +4,8 @@ use Prim.Native.Nat.{_+_, _-_, _≤_}
 use native.Mathlib.Omega.{arith}
 use borrow.Author.Needs.{needs}
 use lib.ListN.{length, drop}
-use Rattle.sample.specs.Replay.{differing}
-use Rattle.sample.proofs.Differing.{too-short, in-all, begun, one-more, ends-cut, ends-with-rest, ends}
+use Rattle.replay.specs.Replay.{differing}
+use Rattle.replay.proofs.Differing.{too-short, in-all, begun, one-more, ends-cut, ends-with-rest, ends}
 use Rattle.replay.proofs.rounds.replay.Statement.{statement}
 use Rattle.replay.proofs.rounds.replay.Tie as tie
 

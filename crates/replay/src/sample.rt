@@ -1,11 +1,9 @@
 // The stored sample of answers: what a record asks, and whether the core answers as the record says.
 ghost use mathlib.Core.Path.{_≡_};
-ghost use Rattle.sample.specs.Replay.{agrees};
+ghost use Rattle.replay.specs.Replay.{agrees};
 use crate::runs::run_agrees;
 use records::layout::memory_length;
 use windows::window_agrees;
-
-pub mod runs;
 
 const MOST_MEMORY: usize = 131072;
 

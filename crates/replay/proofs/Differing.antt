@@ -12,7 +12,7 @@ use Rattle.sm83.specs.Basics.{bit}
 use Rattle.fields.specs.Bytes.{wordAt}
 use Rattle.records.specs.Bytes.{part}
 use Rattle.records.specs.Front.{frontSize}
-use Rattle.sample.specs.Replay.{agrees, differing, differs}
+use Rattle.replay.specs.Replay.{agrees, differing, differs}
 
 pub too-short : (s : List ℕ) → length s < 2 → 1 ≡ differs s
 too-short s h = simp (lt-leb 2 (length s) h)

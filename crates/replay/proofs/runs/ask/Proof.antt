@@ -1,8 +1,8 @@
 -- Shows the budget of a step or of a run, by the test of the kind.
 use borrow.Author.Needs.{needs}
 use borrow.Author.Tests.{eq-eqb, ne-eqb}
-use Rattle.sample.proofs.runs.ask.Statement.{statement}
-use Rattle.sample.proofs.runs.ask.Tie as tie
+use Rattle.replay.proofs.runs.ask.Statement.{statement}
+use Rattle.replay.proofs.runs.ask.Tie as tie
 
 a-step : tie.Need-returns
 a-step c = simp (eq-eqb _ _ (c .before .before .before .before .before .before .before .before .before .before .if1 .taken)) (c .before .before .before .before .before .before .run-blocks .ensures)

@@ -8,7 +8,7 @@ use Rattle.sm83.specs.Basics.{if_then_else_, bit}
 use Rattle.fields.specs.Bytes.{wordAt}
 use Rattle.records.specs.Record.{kindOf, nameLength, memoryLength, listed, changed}
 use Rattle.records.specs.Front.{frontSize}
-use Rattle.sample.specs.Told.{asked, told, sameLeft}
+use Rattle.replay.specs.Told.{asked, told, sameLeft}
 use Rattle.windows.specs.Window.{agreesWindow}
 
 -- the longest memory that a record may ask for

@@ -3,9 +3,9 @@ use borrow.Author.Needs.{needs}
 use mathlib.Core.Path.{sym, _∙_}
 use lib.Seq.{length-take-le}
 use Rattle.records.proofs.Within.{within}
-use Rattle.sample.proofs.Judged.{run-missized, run-sized}
-use Rattle.sample.proofs.runs.run_agrees.Statement.{statement}
-use Rattle.sample.proofs.runs.run_agrees.Tie as tie
+use Rattle.replay.proofs.Judged.{run-missized, run-sized}
+use Rattle.replay.proofs.runs.run_agrees.Statement.{statement}
+use Rattle.replay.proofs.runs.run_agrees.Tie as tie
 
 returns : tie.Need-returns
 returns c = run-missized _ (c .before .before .before .before .listed .ensures .0) (c .before .before .before .changed .ensures .0) (c .before .wide .ensures .0) (c .if1 .taken)

@@ -4,9 +4,9 @@ use mathlib.Core.Path.{_≡_, refl}
 use native.Mathlib.Omega.{arith}
 use Rattle.records.specs.Bytes.{part}
 use Rattle.records.proofs.Copied.{copied}
-use Rattle.sample.proofs.Compared.{run-compared}
-use Rattle.sample.proofs.runs.compare.Statement.{statement}
-use Rattle.sample.proofs.runs.compare.Tie as tie
+use Rattle.replay.proofs.Compared.{run-compared}
+use Rattle.replay.proofs.runs.compare.Statement.{statement}
+use Rattle.replay.proofs.runs.compare.Tie as tie
 
 as-told-requires : tie.Need-as-told-requires
 as-told-requires c κs = omega (arith, c .before .before .before .before .before .before .before .before .before .before .before .before .before .before .before .before .before .before .before .before .before .before .before .before .before .before .before .before .before .before .before .before .before .before .before .pre)

@@ -9,7 +9,7 @@ use Rattle.calls.specs.Left.{left, runBlocks}
 use Rattle.records.specs.Bytes.{part, patched}
 use Rattle.told.specs.Told.{leftAsTold}
 use Rattle.records.specs.Record.{kindOf, listed, changed, memoryFrom}
-use Rattle.sample.specs.Told.{budgetOf, asked, told, sameLeft}
+use Rattle.replay.specs.Told.{budgetOf, asked, told, sameLeft}
 
 pub run-compared : (r : List ℕ) (size size' n count budget : ℕ) (state mem want want' : List ℕ) (number : ℕ) (state' mem' answer' : List ℕ) (b : Bool) → n ≡ listed r → count ≡ changed r → mem ≡ memoryFrom r 87 size → want ≡ memoryFrom r 87 size' → want' ≡ patched r (87 + 3 * n) count want → state ≡ part r 15 39 → budget ≡ wordAt r 11 → left number state' mem' answer' ≡ runBlocks (budgetOf (kindOf r) budget) state mem (replicate 24 0) → b ≡ leftAsTold r number state' mem' want' answer' → b ≡ sameLeft (asked r size) (told r size')
 unfolding asked told

@@ -1,8 +1,8 @@
 -- Shows the answer by the tests in their order.
 use borrow.Author.Needs.{needs}
-use Rattle.sample.proofs.Judged.{too-short, too-large, as-run, as-window, as-none}
-use Rattle.sample.proofs.agrees.Statement.{statement}
-use Rattle.sample.proofs.agrees.Tie as tie
+use Rattle.replay.proofs.Judged.{too-short, too-large, as-run, as-window, as-none}
+use Rattle.replay.proofs.sample.agrees.Statement.{statement}
+use Rattle.replay.proofs.sample.agrees.Tie as tie
 
 returns : tie.Need-returns
 returns c = too-short _ (c .if1 .taken)

@@ -9,8 +9,8 @@ use borrow.Author.Tests.{eqb-true}
 use Rattle.calls.specs.Left.{Left, left}
 use Rattle.same.specs.Bytes.{sameBytes}
 use Rattle.records.specs.Record.{memoryLength}
-use Rattle.sample.specs.Told.{asked, told, sameLeft}
-use Rattle.sample.specs.Replay.{runSize, agreesRun}
+use Rattle.replay.specs.Told.{asked, told, sameLeft}
+use Rattle.replay.specs.Replay.{runSize, agreesRun}
 use Rattle.same.proofs.SameBytes.{and-first, and-second, same-equal}
 use Rattle.windows.proofs.Windowed.{chosen}
 
