@@ -3,9 +3,10 @@ ghost use mathlib.Core.Path.{_≡_};
 ghost use lib.ListN.{length};
 ghost use Rattle.definition.specs.Bus.{Operand};
 ghost use Rattle.definition.specs.Execution.{load, store, high};
-ghost use Rattle.accesses.specs.Leads.{Leads};
+ghost use Rattle.accesses.specs.Leads.{Runs};
 use crate::Both;
 use crate::Val16;
+use memory::AccessKind;
 use memory::Port;
 use sm83::Addr;
 use sm83::Cpu;
@@ -13,9 +14,9 @@ use sm83::Cpu;
 // The byte at an address, as a word.
 pub fn load(cpu: Cpu, port: Port, a: Addr, mem: &mut [u8]) -> Val16
     requires { ⌜ length (now mem) ≡ 65536 ⌝ }
-    ensures { λ r. ⌜ Leads (load Operand (a .0)) cpu port (now (mem .entry)) (r .value) (r .cpu) (r .port) (now (mem .exit)) × (length (now (mem .exit)) ≡ 65536) ⌝ }
+    ensures { λ r. ⌜ Runs (load Operand (a .0)) cpu port (now (mem .entry)) (r .value) (r .cpu) (r .port) (now (mem .exit)) ⌝ }
 {
-    let got = memory::read(port, mem, a);
+    let got = memory::read(port, mem, AccessKind::Operand, a);
     let p = got.port;
     Val16 {
         cpu: cpu,
@@ -34,8 +35,8 @@ pub fn high(n: u8) -> Addr
 // A byte to an address.
 pub fn store(cpu: Cpu, port: Port, a: Addr, v: u8, mem: &mut [u8]) -> Both
     requires { ⌜ length (now mem) ≡ 65536 ⌝ }
-    ensures { λ r. ⌜ Leads (store Operand (a .0) v) cpu port (now (mem .entry)) tt (r .cpu) (r .port) (now (mem .exit)) × (length (now (mem .exit)) ≡ 65536) ⌝ }
+    ensures { λ r. ⌜ Runs (store Operand (a .0) v) cpu port (now (mem .entry)) tt (r .cpu) (r .port) (now (mem .exit)) ⌝ }
 {
-    let p = memory::write(port, mem, a, v);
+    let p = memory::write(port, mem, AccessKind::Operand, a, v);
     Both { cpu: cpu, port: p }
 }

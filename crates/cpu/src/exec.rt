@@ -2,7 +2,7 @@
 ghost use mathlib.Core.Path.{_≡_};
 ghost use lib.Dec.{T};
 ghost use lib.ListN.{length};
-ghost use Rattle.accesses.specs.Leads.{Leads};
+ghost use Rattle.accesses.specs.Leads.{Runs};
 ghost use Rattle.mirror.specs.Mirror.{execRow};
 ghost use Rattle.mirror.specs.Runnable.{runnable};
 use destinations::write_operand;
@@ -24,7 +24,7 @@ pub fn exec_instruction(
 ) -> Executed
     requires { ⌜ length (now mem) ≡ 65536 ⌝ }
     requires { ⌜ T (runnable instruction) ⌝ }
-    ensures { λ r. ⌜ Leads (execRow instruction (at .0)) cpu port (now (mem .entry)) (r .outcome) (r .cpu) (r .port) (now (mem .exit)) × (length (now (mem .exit)) ≡ 65536) ⌝ }
+    ensures { λ r. ⌜ Runs (execRow instruction (at .0)) cpu port (now (mem .entry)) (r .outcome) (r .cpu) (r .port) (now (mem .exit)) ⌝ }
 {
     let src = instruction.src;
     let opcode = instruction.opcode;

@@ -4,7 +4,7 @@ ghost use mathlib.Core.Bool.{false};
 ghost use lib.ListN.{length};
 ghost use Rattle.definition.specs.Step.{instruction, awake, step};
 ghost use Rattle.instruction.specs.Entry.{Plain, Prefixed};
-ghost use Rattle.accesses.specs.Leads.{Leads};
+ghost use Rattle.accesses.specs.Leads.{Runs};
 use crate::exec::exec_instruction;
 use fetching::fetch::fetch_entry;
 use instruction::Instruction;
@@ -27,7 +27,7 @@ fn run_one(
     requires { ⌜ length (now mem) ≡ 65536 ⌝ }
     requires { ⌜ Plain (now plain) ⌝ }
     requires { ⌜ Prefixed (now prefixed) ⌝ }
-    ensures { λ r. ⌜ Leads instruction cpu port (now (mem .entry)) (r .outcome) (r .cpu) (r .port) (now (mem .exit)) × (length (now (mem .exit)) ≡ 65536) ⌝ }
+    ensures { λ r. ⌜ Runs instruction cpu port (now (mem .entry)) (r .outcome) (r .cpu) (r .port) (now (mem .exit)) ⌝ }
 {
     let x = fetch_entry(cpu, port, plain, prefixed, mem);
     let s = x.cpu;
@@ -48,7 +48,7 @@ fn awake(
     requires { ⌜ length (now mem) ≡ 65536 ⌝ }
     requires { ⌜ Plain (now plain) ⌝ }
     requires { ⌜ Prefixed (now prefixed) ⌝ }
-    ensures { λ r. ⌜ Leads awake cpu port (now (mem .entry)) (r .outcome) (r .cpu) (r .port) (now (mem .exit)) × (length (now (mem .exit)) ≡ 65536) ⌝ }
+    ensures { λ r. ⌜ Runs awake cpu port (now (mem .entry)) (r .outcome) (r .cpu) (r .port) (now (mem .exit)) ⌝ }
 {
     let called = is_called(cpu.ime, mem);
     if called {
@@ -70,7 +70,7 @@ fn running(
     requires { ⌜ Plain (now plain) ⌝ }
     requires { ⌜ Prefixed (now prefixed) ⌝ }
     requires { ⌜ (cpu .stopped ≡ false) × (cpu .hdma ≡ false) ⌝ }
-    ensures { λ r. ⌜ Leads step cpu port (now (mem .entry)) (r .outcome) (r .cpu) (r .port) (now (mem .exit)) × (length (now (mem .exit)) ≡ 65536) ⌝ }
+    ensures { λ r. ⌜ Runs step cpu port (now (mem .entry)) (r .outcome) (r .cpu) (r .port) (now (mem .exit)) ⌝ }
 {
     let w = wake(cpu, port, mem);
     let s = w.cpu;
@@ -98,7 +98,7 @@ pub fn next_instruction(
     requires { ⌜ length (now mem) ≡ 65536 ⌝ }
     requires { ⌜ Plain (now plain) ⌝ }
     requires { ⌜ Prefixed (now prefixed) ⌝ }
-    ensures { λ r. ⌜ Leads step cpu port (now (mem .entry)) (r .outcome) (r .cpu) (r .port) (now (mem .exit)) × (length (now (mem .exit)) ≡ 65536) ⌝ }
+    ensures { λ r. ⌜ Runs step cpu port (now (mem .entry)) (r .outcome) (r .cpu) (r .port) (now (mem .exit)) ⌝ }
 {
     let stopped = cpu.stopped;
     if stopped {

@@ -82,14 +82,15 @@ woken = do
   s ← state
   if s .dmg then awake else (do wait; awake)
 
--- 1, 2 and 3
+-- 3, or 4 to 7, from this state. "Halted (HaltRunInterrupt or HaltNoRunInterrupt): one idle access."
+abbrev pub rested : {R : Type 0} → Cpu → Does R Outcome
+rested s = if isAsleep (s .halt) then (do wait; i ← asked; if isInterrupt i then woken else give Halting) else awake
+
+-- 1, 2, or 3 to 7
 unfoldable pub step : {R : Type 0} → Does R Outcome
 step = do
   s ← state
-  if s .stopped then (do wait; give Stopped) else
-      (if s .hdma then (do wait; give RunningHDMA) else
-      (if isAsleep (s .halt) then (do wait; i ← asked; if isInterrupt i then woken else give Halting) else
-      awake))
+  if s .stopped then (do wait; give Stopped) else (if s .hdma then (do wait; give RunningHDMA) else rested s)
 
 -- How a step ends.
 pub record Ended : Type 0 where

@@ -5,7 +5,7 @@ ghost use Prim.Native.Nat.{ℕ};
 ghost use lib.Dec.{T, eqb};
 ghost use lib.ListN.{length};
 ghost use Rattle.sm83.specs.State.{onRegisters};
-ghost use Rattle.accesses.specs.Leads.{Leads};
+ghost use Rattle.accesses.specs.Leads.{Leads, Runs};
 ghost use Rattle.mirror.specs.Operands.{writeOperand};
 ghost use Rattle.operands.specs.Operand.{writable};
 ghost use Rattle.destinations.specs.Widths.{both, widthOf};
@@ -86,7 +86,7 @@ fn write_byte(cpu: Cpu, port: Port, ty: OperandType, value: u16) -> Both
 pub fn write_operand(cpu: Cpu, port: Port, ty: OperandType, value: u16, mem: &mut [u8]) -> Both
     requires { ⌜ length (now mem) ≡ 65536 ⌝ }
     requires { ⌜ T (writable ty) ⌝ }
-    ensures { λ r. ⌜ Leads (writeOperand ty value) cpu port (now (mem .entry)) tt (r .cpu) (r .port) (now (mem .exit)) × (length (now (mem .exit)) ≡ 65536) ⌝ }
+    ensures { λ r. ⌜ Runs (writeOperand ty value) cpu port (now (mem .entry)) tt (r .cpu) (r .port) (now (mem .exit)) ⌝ }
 {
     let mut regs = cpu.registers;
     let low = (value % 256) as u8;

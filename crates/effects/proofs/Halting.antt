@@ -8,10 +8,9 @@ use Rattle.sm83.specs.declared.Cpu.{Cpu}
 use Rattle.sm83.specs.declared.HaltMode.the-variants.{HaltRunInterrupt, HaltNoRunInterrupt, HaltBug}
 use Rattle.outcome.specs.declared.Outcome.the-variants.{Normal}
 use Rattle.sm83.specs.Basics.{if_then_else_}
-use Rattle.definition.specs.Bus.{pending}
 use Rattle.sm83.specs.State.{setHalt}
 use Rattle.memory.specs.declared.Port.{Port}
-use Rattle.memory.specs.World.{leads}
+use Rattle.memory.specs.World.{Peeks}
 use Rattle.results.specs.declared.Worked.{Worked}
 use Rattle.accesses.specs.Leads.{Leads}
 use Rattle.mirror.specs.Mirror.{haltMade}
@@ -21,6 +20,5 @@ module _ (s t : Cpu) (port : Port) (m : List ℕ) (r : Worked) where
   pub halted : s .ime ≡ true → t ≡ setHalt HaltRunInterrupt s → r ≡ worked t port 0 Normal → Leads haltMade s port m (madeBy r) (r .cpu) (r .port) m
   halted e1 e2 e3 k = simp (e3, e2, e1)
 
-  pub halted-off : (m' : List ℕ) (i : ℕ) (some : Bool) → s .ime ≡ false → i ≡ pending m → m' ≡ m → ltb i 5 ≡ some → t ≡ setHalt (if some then HaltBug else HaltNoRunInterrupt) s → r ≡ worked t port 0 Normal → Leads haltMade s port m (madeBy r) (r .cpu) (r .port) m'
-  unfolding leads
-  halted-off m' i some e1 e2 e3 e4 e5 e6 k = simp (e6, e5, ← e4, e3, e2, e1)
+  pub halted-off : (m' : List ℕ) (i : ℕ) (some : Bool) → s .ime ≡ false → Peeks m i m' → ltb i 5 ≡ some → t ≡ setHalt (if some then HaltBug else HaltNoRunInterrupt) s → r ≡ worked t port 0 Normal → Leads haltMade s port m (madeBy r) (r .cpu) (r .port) m'
+  halted-off m' i some e1 h e4 e5 e6 k = simp (e6, e5, ← e4, e1) (h .there port _)

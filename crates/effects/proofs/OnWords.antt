@@ -10,7 +10,7 @@ use Rattle.definition.specs.Execution.{_>>_, wait, push, pop}
 use Rattle.alu16.specs.declared.ComputedWord.{ComputedWord}
 use Rattle.alu16.specs.Words.{wordWith}
 use Rattle.memory.specs.declared.Port.{Port}
-use Rattle.memory.specs.World.{leads, counted}
+use Rattle.memory.specs.World.{Idles}
 use Rattle.results.specs.declared.Worked.{Worked}
 use Rattle.accesses.specs.Leads.{Leads}
 use Rattle.mirror.specs.Mirror.{made, loadSPMade, loadHLMade, addSPMade, addHLMade, slowlyMade, pushMade, popMade}
@@ -20,28 +20,27 @@ use Rattle.results.proofs.Ending.{ending}
 use Rattle.accesses.proofs.Parts.{waited}
 
 module _ (s : Cpu) (port port' : Port) (m m' : List ℕ) (r : Worked) where
-  pub loaded-sp : (t : Cpu) (hl : ℕ) → port' ≡ counted port → m' ≡ m → hl ≡ pairHL (s .registers) → t ≡ setSP hl s → r ≡ worked t port' 0 Normal → Leads loadSPMade s port m (madeBy r) (r .cpu) (r .port) m'
-  unfolding leads loadSPMade
-  loaded-sp t hl e1 e2 e3 e4 e5 k = simp (e5, e4, e3, e2, e1)
+  pub loaded-sp : (t : Cpu) (hl : ℕ) → Idles port m port' m' → hl ≡ pairHL (s .registers) → t ≡ setSP hl s → r ≡ worked t port' 0 Normal → Leads loadSPMade s port m (madeBy r) (r .cpu) (r .port) m'
+  unfolding loadSPMade
+  loaded-sp t hl h e3 e4 e5 k = h .there _ ∙ simp (e5, e4, e3)
 
-  pub offset-loaded : (v : ℕ) → port' ≡ counted port → m' ≡ m → r ≡ offsetBy s port' v → Leads (loadHLMade v) s port m (madeBy r) (r .cpu) (r .port) m'
-  unfolding leads loadHLMade
-  offset-loaded v e1 e2 e3 k = simp (e3, e2, e1)
+  pub offset-loaded : (v : ℕ) → Idles port m port' m' → r ≡ offsetBy s port' v → Leads (loadHLMade v) s port m (madeBy r) (r .cpu) (r .port) m'
+  unfolding loadHLMade
+  offset-loaded v h e3 k = h .there _ ∙ simp e3
 
-  pub offset-added : (port'' : Port) (m'' : List ℕ) (v : ℕ) → port' ≡ counted port → m' ≡ m → port'' ≡ counted port' → m'' ≡ m' → r ≡ offsetBy s port'' v → Leads (addSPMade v) s port m (madeBy r) (r .cpu) (r .port) m''
-  unfolding leads addSPMade
-  offset-added port'' m'' v e1 e2 e3 e4 e5 k = simp (e5, e4, e3, e2, e1)
+  pub offset-added : (port'' : Port) (m'' : List ℕ) (v : ℕ) → Idles port m port' m' → Idles port' m' port'' m'' → r ≡ offsetBy s port'' v → Leads (addSPMade v) s port m (madeBy r) (r .cpu) (r .port) m''
+  unfolding addSPMade
+  offset-added port'' m'' v h1 h2 e5 k = h1 .there _ ∙ h2 .there _ ∙ simp e5
 
-  pub hl-added : (v hl : ℕ) (x : ComputedWord) → port' ≡ counted port → m' ≡ m → hl ≡ pairHL (s .registers) → x ≡ wordWith ((hl + v) % 65536) (wordSumFlags hl v (s .registers .f)) → r ≡ worked (setF (x .flags) s) port' (x .value) Normal → Leads (addHLMade v) s port m (madeBy r) (r .cpu) (r .port) m'
-  unfolding leads addHLMade
-  hl-added v hl x e1 e2 e3 e4 e5 = ending s port m m' r _ (addHLMade v) (e5 ∙ ap (λ (y : ComputedWord). worked (setF (y .flags) s) port' (y .value) Normal) e4) (λ k. simp (e3, e2, e1))
+  pub hl-added : (v hl : ℕ) (x : ComputedWord) → Idles port m port' m' → hl ≡ pairHL (s .registers) → x ≡ wordWith ((hl + v) % 65536) (wordSumFlags hl v (s .registers .f)) → r ≡ worked (setF (x .flags) s) port' (x .value) Normal → Leads (addHLMade v) s port m (madeBy r) (r .cpu) (r .port) m'
+  unfolding addHLMade
+  hl-added v hl x h e3 e4 e5 = ending s port m m' r _ (addHLMade v) (e5 ∙ ap (λ (y : ComputedWord). worked (setF (y .flags) s) port' (y .value) Normal) e4) (λ k. h .there _ ∙ simp e3)
 
-  pub slow : (w : ℕ) → port' ≡ counted port → m' ≡ m → r ≡ worked s port' w Normal → Leads (slowlyMade w) s port m (madeBy r) (r .cpu) (r .port) m'
-  unfolding leads
-  slow w e1 e2 e3 k = simp (e3, e2, e1)
+  pub slow : (w : ℕ) → Idles port m port' m' → r ≡ worked s port' w Normal → Leads (slowlyMade w) s port m (madeBy r) (r .cpu) (r .port) m'
+  slow w h e3 k = h .there _ ∙ simp e3
 
-  pub word-pushed : (t : Cpu) (port'' : Port) (m'' : List ℕ) (v : ℕ) → port' ≡ counted port → m' ≡ m → Leads (push v) s port' m' tt t port'' m'' → r ≡ worked t port'' 0 Normal → Leads (pushMade v) s port m (madeBy r) (r .cpu) (r .port) m''
-  word-pushed t port'' m'' v e1 e2 l e = ending s port m m'' r _ (pushMade v) e (after s s t port port' port'' m m' m'' wait (λ _. push v >> made 0) tt _ (waited s port port' m m' e1 e2) (λ k. l (λ _ x. made 0 x k)))
+  pub word-pushed : (t : Cpu) (port'' : Port) (m'' : List ℕ) (v : ℕ) → Idles port m port' m' → Leads (push v) s port' m' tt t port'' m'' → r ≡ worked t port'' 0 Normal → Leads (pushMade v) s port m (madeBy r) (r .cpu) (r .port) m''
+  word-pushed t port'' m'' v h l e = ending s port m m'' r _ (pushMade v) e (after s s t port port' port'' m m' m'' wait (λ _. push v >> made 0) tt _ (waited s port port' m m' h) (λ k. l (λ _ x. made 0 x k)))
 
   pub word-popped : (t : Cpu) (w : ℕ) → Leads pop s port m w t port' m' → r ≡ worked t port' w Normal → Leads popMade s port m (madeBy r) (r .cpu) (r .port) m'
   word-popped t w l e = ending s port m m' r _ popMade e (λ k. l (λ x y. made x y k))

@@ -1,7 +1,7 @@
 // HALT.
 ghost use mathlib.Core.Path.{_≡_};
 ghost use lib.ListN.{length};
-ghost use Rattle.accesses.specs.Leads.{Leads};
+ghost use Rattle.accesses.specs.Leads.{Runs};
 ghost use Rattle.mirror.specs.Mirror.{haltMade};
 ghost use Rattle.results.specs.Worked.{madeBy};
 use accesses::states::with_halt;
@@ -14,7 +14,7 @@ use sm83::HaltMode;
 
 pub fn halt(cpu: Cpu, port: Port, mem: &mut [u8]) -> Worked
     requires { ⌜ length (now mem) ≡ 65536 ⌝ }
-    ensures { λ r. ⌜ Leads haltMade cpu port (now (mem .entry)) (madeBy r) (r .cpu) (r .port) (now (mem .exit)) × (length (now (mem .exit)) ≡ 65536) ⌝ }
+    ensures { λ r. ⌜ Runs haltMade cpu port (now (mem .entry)) (madeBy r) (r .cpu) (r .port) (now (mem .exit)) ⌝ }
 {
     let ime = cpu.ime;
     if ime {

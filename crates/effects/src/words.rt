@@ -1,7 +1,7 @@
 // The operations on words, and PUSH and POP: each waits or uses the stack.
 ghost use mathlib.Core.Path.{_≡_};
 ghost use lib.ListN.{length};
-ghost use Rattle.accesses.specs.Leads.{Leads};
+ghost use Rattle.accesses.specs.Leads.{Runs};
 ghost use Rattle.mirror.specs.Mirror.{loadSPMade, loadHLMade, addSPMade, addHLMade, slowlyMade, pushMade, popMade};
 ghost use Rattle.results.specs.Worked.{madeBy, offsetBy};
 use accesses::states::with_registers;
@@ -19,7 +19,7 @@ use stack::stack_push;
 
 pub fn ld_sp_hl(cpu: Cpu, port: Port, mem: &mut [u8]) -> Worked
     requires { ⌜ length (now mem) ≡ 65536 ⌝ }
-    ensures { λ r. ⌜ Leads loadSPMade cpu port (now (mem .entry)) (madeBy r) (r .cpu) (r .port) (now (mem .exit)) × (length (now (mem .exit)) ≡ 65536) ⌝ }
+    ensures { λ r. ⌜ Runs loadSPMade cpu port (now (mem .entry)) (madeBy r) (r .cpu) (r .port) (now (mem .exit)) ⌝ }
 {
     let p = idle(port, mem);
     let mut regs = cpu.registers;
@@ -39,7 +39,7 @@ fn add_offset(cpu: Cpu, port: Port, value: u16) -> Worked
 
 pub fn ld_hl_sp(cpu: Cpu, port: Port, value: u16, mem: &mut [u8]) -> Worked
     requires { ⌜ length (now mem) ≡ 65536 ⌝ }
-    ensures { λ r. ⌜ Leads (loadHLMade value) cpu port (now (mem .entry)) (madeBy r) (r .cpu) (r .port) (now (mem .exit)) × (length (now (mem .exit)) ≡ 65536) ⌝ }
+    ensures { λ r. ⌜ Runs (loadHLMade value) cpu port (now (mem .entry)) (madeBy r) (r .cpu) (r .port) (now (mem .exit)) ⌝ }
 {
     let p = idle(port, mem);
     add_offset(cpu, p, value)
@@ -47,7 +47,7 @@ pub fn ld_hl_sp(cpu: Cpu, port: Port, value: u16, mem: &mut [u8]) -> Worked
 
 pub fn add_sp(cpu: Cpu, port: Port, value: u16, mem: &mut [u8]) -> Worked
     requires { ⌜ length (now mem) ≡ 65536 ⌝ }
-    ensures { λ r. ⌜ Leads (addSPMade value) cpu port (now (mem .entry)) (madeBy r) (r .cpu) (r .port) (now (mem .exit)) × (length (now (mem .exit)) ≡ 65536) ⌝ }
+    ensures { λ r. ⌜ Runs (addSPMade value) cpu port (now (mem .entry)) (madeBy r) (r .cpu) (r .port) (now (mem .exit)) ⌝ }
 {
     let p = idle(port, mem);
     let q = idle(p, mem);
@@ -56,7 +56,7 @@ pub fn add_sp(cpu: Cpu, port: Port, value: u16, mem: &mut [u8]) -> Worked
 
 pub fn add_hl(cpu: Cpu, port: Port, value: u16, mem: &mut [u8]) -> Worked
     requires { ⌜ length (now mem) ≡ 65536 ⌝ }
-    ensures { λ r. ⌜ Leads (addHLMade value) cpu port (now (mem .entry)) (madeBy r) (r .cpu) (r .port) (now (mem .exit)) × (length (now (mem .exit)) ≡ 65536) ⌝ }
+    ensures { λ r. ⌜ Runs (addHLMade value) cpu port (now (mem .entry)) (madeBy r) (r .cpu) (r .port) (now (mem .exit)) ⌝ }
 {
     let p = idle(port, mem);
     let regs = cpu.registers;
@@ -67,7 +67,7 @@ pub fn add_hl(cpu: Cpu, port: Port, value: u16, mem: &mut [u8]) -> Worked
 // A word after one M-cycle: INC and DEC of a pair.
 pub fn slowly(cpu: Cpu, port: Port, word: Addr, mem: &mut [u8]) -> Worked
     requires { ⌜ length (now mem) ≡ 65536 ⌝ }
-    ensures { λ r. ⌜ Leads (slowlyMade (word .0)) cpu port (now (mem .entry)) (madeBy r) (r .cpu) (r .port) (now (mem .exit)) × (length (now (mem .exit)) ≡ 65536) ⌝ }
+    ensures { λ r. ⌜ Runs (slowlyMade (word .0)) cpu port (now (mem .entry)) (madeBy r) (r .cpu) (r .port) (now (mem .exit)) ⌝ }
 {
     let p = idle(port, mem);
     plain(cpu, p, word.0)
@@ -75,7 +75,7 @@ pub fn slowly(cpu: Cpu, port: Port, word: Addr, mem: &mut [u8]) -> Worked
 
 pub fn push_word(cpu: Cpu, port: Port, value: u16, mem: &mut [u8]) -> Worked
     requires { ⌜ length (now mem) ≡ 65536 ⌝ }
-    ensures { λ r. ⌜ Leads (pushMade value) cpu port (now (mem .entry)) (madeBy r) (r .cpu) (r .port) (now (mem .exit)) × (length (now (mem .exit)) ≡ 65536) ⌝ }
+    ensures { λ r. ⌜ Runs (pushMade value) cpu port (now (mem .entry)) (madeBy r) (r .cpu) (r .port) (now (mem .exit)) ⌝ }
 {
     let p = idle(port, mem);
     let x = stack_push(cpu, p, value, mem);
@@ -86,7 +86,7 @@ pub fn push_word(cpu: Cpu, port: Port, value: u16, mem: &mut [u8]) -> Worked
 
 pub fn pop_word(cpu: Cpu, port: Port, mem: &mut [u8]) -> Worked
     requires { ⌜ length (now mem) ≡ 65536 ⌝ }
-    ensures { λ r. ⌜ Leads popMade cpu port (now (mem .entry)) (madeBy r) (r .cpu) (r .port) (now (mem .exit)) × (length (now (mem .exit)) ≡ 65536) ⌝ }
+    ensures { λ r. ⌜ Runs popMade cpu port (now (mem .entry)) (madeBy r) (r .cpu) (r .port) (now (mem .exit)) ⌝ }
 {
     let x = stack_pop(cpu, port, mem);
     let s = x.cpu;

@@ -2,7 +2,7 @@
 ghost use mathlib.Core.Path.{_≡_};
 ghost use lib.Dec.{T, leb};
 ghost use lib.ListN.{length};
-ghost use Rattle.accesses.specs.Leads.{Leads};
+ghost use Rattle.accesses.specs.Leads.{Runs};
 ghost use Rattle.mirror.specs.Mirror.{compute};
 ghost use Rattle.results.specs.Worked.{madeBy};
 ghost use Rattle.mirror.specs.Runnable.{executable, partOf};
@@ -77,7 +77,7 @@ fn never_executed(cpu: Cpu, port: Port) -> Worked
 pub fn compute(cpu: Cpu, port: Port, opcode: Opcode, src: u16, at: Addr, mem: &mut [u8]) -> Worked
     requires { ⌜ length (now mem) ≡ 65536 ⌝ }
     requires { ⌜ T (executable opcode) ⌝ }
-    ensures { λ r. ⌜ Leads (compute opcode (at .0) src) cpu port (now (mem .entry)) (madeBy r) (r .cpu) (r .port) (now (mem .exit)) × (length (now (mem .exit)) ≡ 65536) ⌝ }
+    ensures { λ r. ⌜ Runs (compute opcode (at .0) src) cpu port (now (mem .entry)) (madeBy r) (r .cpu) (r .port) (now (mem .exit)) ⌝ }
 {
     let regs = cpu.registers;
     let a = regs.a;
@@ -121,7 +121,7 @@ fn compute_from_jp(
     requires { ⌜ length (now mem) ≡ 65536 ⌝ }
     requires { ⌜ T (executable opcode) ⌝ }
     requires { ⌜ T (leb 2 (partOf opcode)) ⌝ }
-    ensures { λ r. ⌜ Leads (compute opcode (at .0) src) cpu port (now (mem .entry)) (madeBy r) (r .cpu) (r .port) (now (mem .exit)) × (length (now (mem .exit)) ≡ 65536) ⌝ }
+    ensures { λ r. ⌜ Runs (compute opcode (at .0) src) cpu port (now (mem .entry)) (madeBy r) (r .cpu) (r .port) (now (mem .exit)) ⌝ }
 {
     let regs = cpu.registers;
     let a = regs.a;
@@ -160,7 +160,7 @@ fn compute_from_rlc(
     requires { ⌜ length (now mem) ≡ 65536 ⌝ }
     requires { ⌜ T (executable opcode) ⌝ }
     requires { ⌜ T (leb 3 (partOf opcode)) ⌝ }
-    ensures { λ r. ⌜ Leads (compute opcode (at .0) src) cpu port (now (mem .entry)) (madeBy r) (r .cpu) (r .port) (now (mem .exit)) × (length (now (mem .exit)) ≡ 65536) ⌝ }
+    ensures { λ r. ⌜ Runs (compute opcode (at .0) src) cpu port (now (mem .entry)) (madeBy r) (r .cpu) (r .port) (now (mem .exit)) ⌝ }
 {
     let regs = cpu.registers;
     let f = regs.f;

@@ -3,25 +3,25 @@ use mathlib.Core.Path.{_≡_, refl, ap, sym, _∙_}
 use mathlib.Core.Bool.{Bool, true, false, _||_}
 use mathlib.Core.List.{List}
 use Prim.Native.Nat.{ℕ, _<_}
-use lib.Dec.{eqb, T}
+use lib.Dec.{eqb}
+use lib.ListN.{length}
 use borrow.Author.Tests.{ne-eqb}
 use Rattle.sm83.specs.declared.Cpu.{Cpu}
 use Rattle.sm83.specs.declared.HaltMode.the-variants.{NotHalting}
 use Rattle.outcome.specs.declared.Outcome.{Outcome}
 use Rattle.sm83.specs.Basics.{if_then_else_, next}
-use Rattle.definition.specs.Bus.{Fetch, Ask, read, byteAt}
+use Rattle.definition.specs.Bus.{Fetch, Ask, read}
 use Rattle.sm83.specs.State.{pc, setPC, setIme, setLatch, setHalt}
 use Rattle.opcodes.specs.Instruction.{decode, decodeCB}
-use Rattle.definition.specs.Execution.{Does, _>>_, byteAtPC, imm8, prefixed, normal, execute}
+use Rattle.definition.specs.Execution.{Does, _>>_, byteAtPC, prefixed, normal, execute}
 use Rattle.definition.specs.Step.{Ended, isBug, enabled, fetched, instruction}
 use Rattle.ranges.proofs.Ranges.{Bytes}
 use Rattle.instruction.specs.declared.Instruction.{Instruction}
 use Rattle.instruction.specs.Row.{rowOf, prefixedRow}
 use Rattle.memory.specs.declared.Port.{Port}
-use Rattle.memory.specs.World.{world, leads, counted}
-use Rattle.accesses.specs.Leads.{Leads}
+use Rattle.memory.specs.World.{world, leads}
+use Rattle.accesses.specs.Leads.{Leads, LeadsTo}
 use Rattle.mirror.specs.Mirror.{execRow}
-use Rattle.mirror.specs.Runnable.{runnable}
 use Rattle.stages.specs.Stages.{unbugged, Fetches}
 use Rattle.mirror.proofs.Small.{ByteRegisters}
 use Rattle.mirror.proofs.Bridge.{row-leads, prefixed-row-leads, row-runs, prefixed-row-runs}
@@ -46,39 +46,39 @@ steps-back s = by-bug (isBug (s .halt))
     by-bug false = refl
 
 -- "After 0xCB fetch again."
-second-byte : (at : ℕ) (v w : Cpu) (port port' : Port) (m m' : List ℕ) (y : ℕ) → Leads imm8 v port m y w port' m' → (k : Outcome → Cpu → Ask Ended) → leads (execute at (decode 0xcb) v k) (world port m) ≡ leads ((do prefixed (decodeCB y); normal) w k) (world port' m')
-unfolding execute decode leads imm8 byteAtPC
+second-byte : (at : ℕ) (v w : Cpu) (port port' : Port) (m m' : List ℕ) (y : ℕ) → Leads (byteAtPC Fetch) v port m y w port' m' → (k : Outcome → Cpu → Ask Ended) → leads (execute at (decode 0xcb) v k) (world port m) ≡ leads ((do prefixed (decodeCB y); normal) w k) (world port' m')
+unfolding execute decode byteAtPC
 second-byte at v w port port' m m' y second k = second (λ x t. (do prefixed (decodeCB x); normal) t k)
 
-module _ (s u t : Cpu) (port port' : Port) (m m' : List ℕ) (b : ℕ) (e : u ≡ enabled s) (first : Leads imm8 u port m b t port' m') where
+module _ (s u t : Cpu) (port port' : Port) (m m' : List ℕ) (b : ℕ) (e : u ≡ enabled s) (first : Leads (byteAtPC Fetch) u port m b t port' m') where
   -- the first byte, and the state after it
-  one-byte : (k : Outcome → Cpu → Ask Ended) → leads (instruction s k) (world port m) ≡ leads (execute (pc u) (decode b) (unbugged t (pc u)) k) (world port' m')
-  unfolding instruction leads imm8
+  one-byte : LeadsTo instruction s port m (execute (pc u) (decode b)) (unbugged t (pc u)) port' m'
+  unfolding instruction byteAtPC
   one-byte k =
       ap (λ (w : Cpu). leads (read Fetch (pc w) (λ x. execute (pc w) (decode x) (fetched w) k)) (world port m)) (sym e)
-      ∙ ap (λ (w : Cpu). leads (execute (pc u) (decode (byteAt m (pc u))) w k) (world (counted port) m)) (steps-back u)
+      ∙ ap (λ (w : Cpu). leads (read Fetch (pc u) (λ x. execute (pc u) (decode x) w k)) (world port m)) (steps-back u)
       ∙ first (λ x w. execute (pc u) (decode x) (unbugged w (pc u)) k)
 
   module _ (v : Cpu) (i : Instruction) (ev : v ≡ unbugged t (pc u)) where
-    from-here : (k : Outcome → Cpu → Ask Ended) → leads (instruction s k) (world port m) ≡ leads (execute (pc u) (decode b) v k) (world port' m')
+    from-here : LeadsTo instruction s port m (execute (pc u) (decode b)) v port' m'
     from-here k = one-byte k ∙ ap (λ (w : Cpu). leads (execute (pc u) (decode b) w k) (world port' m')) (sym ev)
 
-    pub fetches-plain : b < 256 → (b ≡ 0xcb → ⊥) → i ≡ rowOf (decode b) → Bytes m' → ByteRegisters (v .registers) → Fetches s port m (pc u) i v port' m' × T (runnable i)
-    fetches-plain small ne ei bytes regs = rw ei (leading, row-runs b small (ne-eqb b 0xcb ne) .1)
+    pub fetches-plain : b < 256 → (b ≡ 0xcb → ⊥) → i ≡ rowOf (decode b) → Bytes m' → ByteRegisters (v .registers) → length m' ≡ 65536 → Fetches s port m (pc u) i v port' m'
+    fetches-plain small ne ei bytes regs whole = rw ei (record { left = record { there = leading; whole = whole }; can-run = row-runs b small (ne-eqb b 0xcb ne) .1 })
       where
-        leading : Fetches s port m (pc u) (rowOf (decode b)) v port' m'
-        leading k = from-here k ∙ sym (row-leads m' bytes (pc u) v regs k port' (decode b) (row-runs b small (ne-eqb b 0xcb ne) .0))
+        leading : LeadsTo instruction s port m (execRow (rowOf (decode b)) (pc u)) v port' m'
+        leading k = from-here k ∙ sym (row-leads (world port' m') bytes (pc u) v regs k (decode b) (row-runs b small (ne-eqb b 0xcb ne) .0))
 
-    pub fetches-prefixed : (w : Cpu) (port'' : Port) (m'' : List ℕ) (y : ℕ) → b ≡ 0xcb → Leads imm8 v port' m' y w port'' m'' → y < 256 → i ≡ prefixedRow (decodeCB y) → Bytes m'' → ByteRegisters (w .registers) → Fetches s port m (pc u) i w port'' m'' × T (runnable i)
-    fetches-prefixed w port'' m'' y eb second small ei bytes regs = rw ei (leading, prefixed-row-runs y small)
+    pub fetches-prefixed : (w : Cpu) (port'' : Port) (m'' : List ℕ) (y : ℕ) → b ≡ 0xcb → Leads (byteAtPC Fetch) v port' m' y w port'' m'' → y < 256 → i ≡ prefixedRow (decodeCB y) → Bytes m'' → ByteRegisters (w .registers) → length m'' ≡ 65536 → Fetches s port m (pc u) i w port'' m''
+    fetches-prefixed w port'' m'' y eb second small ei bytes regs whole = rw ei (record { left = record { there = leading; whole = whole }; can-run = prefixed-row-runs y small })
       where
-        leading : Fetches s port m (pc u) (prefixedRow (decodeCB y)) w port'' m''
+        leading : LeadsTo instruction s port m (execRow (prefixedRow (decodeCB y)) (pc u)) w port'' m''
         leading k =
             from-here k
             ∙ ap (λ (x : ℕ). leads (execute (pc u) (decode x) v k) (world port' m')) eb
             ∙ second-byte (pc u) v w port' port'' m' m'' y second k
-            ∙ sym (prefixed-row-leads m'' bytes (pc u) w regs k port'' y)
+            ∙ sym (prefixed-row-leads (world port'' m'') bytes (pc u) w regs k y)
 
 -- 7. the instruction that the entry stands for is executed
-pub executes : (s t u : Cpu) (port port' port'' : Port) (m m' m'' : List ℕ) (at : ℕ) (i j : Instruction) (o : Outcome) → Fetches s port m at i t port' m' → j ≡ i → Leads (execRow j at) t port' m' o u port'' m'' → Leads instruction s port m o u port'' m''
+pub executes : (s t u : Cpu) (port port' port'' : Port) (m m' m'' : List ℕ) (at : ℕ) (i j : Instruction) (o : Outcome) → LeadsTo instruction s port m (execRow i at) t port' m' → j ≡ i → Leads (execRow j at) t port' m' o u port'' m'' → Leads instruction s port m o u port'' m''
 executes s t u port port' port'' m m' m'' at i j o fetches e l k = fetches k ∙ ap (λ (x : Instruction). leads (execRow x at t k) (world port' m')) (sym e) ∙ l k

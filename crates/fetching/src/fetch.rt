@@ -1,14 +1,13 @@
 // Points 5 and 6: the EI latch, the fetch, and the end of HaltBug.
 ghost use mathlib.Core.Path.{_≡_};
-ghost use lib.Dec.{T};
 ghost use lib.ListN.{length};
 ghost use Rattle.definition.specs.Step.{enabled};
 ghost use Rattle.instruction.specs.Entry.{rowAt, Plain, Prefixed};
-ghost use Rattle.mirror.specs.Runnable.{runnable};
 ghost use Rattle.stages.specs.Stages.{unbugged, Fetches};
 use crate::Fetched;
 use accesses::fetch::fetch_next_pc;
 use accesses::states::with_halt;
+use memory::AccessKind;
 use memory::Port;
 use sm83::Addr;
 use sm83::Cpu;
@@ -53,17 +52,17 @@ pub fn fetch_entry(
     requires { ⌜ length (now mem) ≡ 65536 ⌝ }
     requires { ⌜ Plain (now plain) ⌝ }
     requires { ⌜ Prefixed (now prefixed) ⌝ }
-    ensures { λ r. ⌜ Fetches cpu port (now (mem .entry)) (r .at .0) (rowAt (r .entry) (r .byte)) (r .cpu) (r .port) (now (mem .exit)) × T (runnable (rowAt (r .entry) (r .byte))) × (length (now (mem .exit)) ≡ 65536) ⌝ }
+    ensures { λ r. ⌜ Fetches cpu port (now (mem .entry)) (r .at .0) (rowAt (r .entry) (r .byte)) (r .cpu) (r .port) (now (mem .exit)) ⌝ }
 {
     let c = enable(cpu);
     let regs = c.registers;
     let at = regs.pc;
-    let x = fetch_next_pc(c, port, mem);
+    let x = fetch_next_pc(c, port, AccessKind::Fetch, mem);
     let d = x.cpu;
     let p = x.port;
     let s = unbug(d, at);
     if x.value == 0xcb {
-        let y = fetch_next_pc(s, p, mem);
+        let y = fetch_next_pc(s, p, AccessKind::Fetch, mem);
         let e = y.cpu;
         let q = y.port;
         return Fetched {

@@ -1,12 +1,12 @@
 // Interrupts on plain memory: 0 to 4, and 5 for none. Peeking at one and taking it cost nothing.
 ghost use mathlib.Core.Path.{_≡_};
-ghost use Prim.Native.Nat.{_%_};
-ghost use lib.ListN.{length, set};
-ghost use Rattle.sm83.specs.Basics.{cleared};
-ghost use Rattle.definition.specs.Bus.{byteAt, lowest, pending, taken};
+ghost use lib.ListN.{length};
+ghost use Rattle.definition.specs.Bus.{lowest};
 ghost use Rattle.definition.specs.Step.{vector};
-ghost use Rattle.memory.specs.World.{counted};
+ghost use Rattle.memory.specs.World.{Peeks, Takes};
+ghost use Rattle.interrupts.specs.Requests.{Sees, Clears, SeesAndTakes};
 use bitwise::bits::res;
+use memory::AccessKind;
 use memory::Got;
 use memory::Port;
 use memory::write;
@@ -48,18 +48,26 @@ fn lowest(x: u8) -> u8
     }
 }
 
-pub fn peek_next_interrupt(mem: &mut [u8]) -> u8
+// The lowest bit that is requested and enabled.
+fn lowest_pending(mem: &mut [u8]) -> u8
     requires { ⌜ length (now mem) ≡ 65536 ⌝ }
-    ensures { λ r. ⌜ (r ≡ pending (now (mem .entry))) × (now (mem .exit) ≡ now (mem .entry)) × (length (now (mem .exit)) ≡ 65536) ⌝ }
+    ensures { λ r. ⌜ Sees (now (mem .entry)) r (now (mem .exit)) ⌝ }
 {
     let requested = mem[0xff0f];
     let enabled = mem[0xffff];
     lowest(requested & enabled & 0x1f)
 }
 
+pub fn peek_next_interrupt(mem: &mut [u8]) -> u8
+    requires { ⌜ length (now mem) ≡ 65536 ⌝ }
+    ensures { λ r. ⌜ Peeks (now (mem .entry)) r (now (mem .exit)) ⌝ }
+{
+    lowest_pending(mem)
+}
+
 fn acknowledge(mem: &mut [u8], interrupt: u8)
     requires { ⌜ length (now mem) ≡ 65536 ⌝ }
-    ensures { λ r. ⌜ (now (mem .exit) ≡ set (now (mem .entry)) 0xff0f (cleared (interrupt % 8) (byteAt (now (mem .entry)) 0xff0f))) × (length (now (mem .exit)) ≡ 65536) ⌝ }
+    ensures { λ r. ⌜ Clears interrupt (now (mem .entry)) (now (mem .exit)) ⌝ }
 {
     let requested = mem[0xff0f];
     let left = res(interrupt, requested);
@@ -69,9 +77,9 @@ fn acknowledge(mem: &mut [u8], interrupt: u8)
 // Clears the bit of the interrupt that it answers.
 fn take_next_interrupt(mem: &mut [u8]) -> u8
     requires { ⌜ length (now mem) ≡ 65536 ⌝ }
-    ensures { λ r. ⌜ (r ≡ pending (now (mem .entry))) × (now (mem .exit) ≡ taken (now (mem .entry))) × (length (now (mem .exit)) ≡ 65536) ⌝ }
+    ensures { λ r. ⌜ SeesAndTakes (now (mem .entry)) r (now (mem .exit)) ⌝ }
 {
-    let interrupt = peek_next_interrupt(mem);
+    let interrupt = lowest_pending(mem);
     let some = interrupt < 5;
     if some {
         acknowledge(mem, interrupt);
@@ -84,9 +92,9 @@ fn take_next_interrupt(mem: &mut [u8]) -> u8
 // The push that takes an interrupt: one access.
 pub fn write_and_take(port: Port, mem: &mut [u8], a: Addr, v: u8) -> Got
     requires { ⌜ length (now mem) ≡ 65536 ⌝ }
-    ensures { λ r. ⌜ (r .value ≡ pending (set (now (mem .entry)) (a .0) v)) × (r .port ≡ counted port) × (now (mem .exit) ≡ taken (set (now (mem .entry)) (a .0) v)) × (length (now (mem .exit)) ≡ 65536) ⌝ }
+    ensures { λ r. ⌜ Takes (a .0) v port (now (mem .entry)) (r .value) (r .port) (now (mem .exit)) ⌝ }
 {
-    let p = write(port, mem, a, v);
+    let p = write(port, mem, AccessKind::Stack, a, v);
     let interrupt = take_next_interrupt(mem);
     Got {
         port: p,

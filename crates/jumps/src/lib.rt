@@ -6,10 +6,10 @@ ghost use lib.ListN.{length};
 ghost use Rattle.outcome.specs.declared.Outcome.the-variants.{Normal, InfiniteLoop};
 ghost use Rattle.sm83.specs.Basics.{if_then_else_};
 ghost use Rattle.sm83.specs.State.{setPC};
-ghost use Rattle.memory.specs.World.{counted};
-ghost use Rattle.accesses.specs.Leads.{Leads};
+ghost use Rattle.accesses.specs.Leads.{Runs};
 ghost use Rattle.mirror.specs.Mirror.{jpMade, jrMade, callMade, callIfMade, retMade, retIfMade, retiMade};
 ghost use Rattle.results.specs.Worked.{madeBy, worked};
+ghost use Rattle.jumps.specs.Waits.{IdlesUnless};
 use accesses::states::with_registers;
 use memory::Port;
 use memory::idle;
@@ -47,7 +47,7 @@ pub fn jump(cpu: Cpu, port: Port, to: u16, at: Addr, sure: bool) -> Worked
 
 pub fn jp(cpu: Cpu, port: Port, cond: Condition, to: u16, at: Addr, mem: &mut [u8]) -> Worked
     requires { ⌜ length (now mem) ≡ 65536 ⌝ }
-    ensures { λ r. ⌜ Leads (jpMade cond (at .0) to) cpu port (now (mem .entry)) (madeBy r) (r .cpu) (r .port) (now (mem .exit)) × (length (now (mem .exit)) ≡ 65536) ⌝ }
+    ensures { λ r. ⌜ Runs (jpMade cond (at .0) to) cpu port (now (mem .entry)) (madeBy r) (r .cpu) (r .port) (now (mem .exit)) ⌝ }
 {
     let regs = cpu.registers;
     let go = check_cond(cond, regs.f);
@@ -61,7 +61,7 @@ pub fn jp(cpu: Cpu, port: Port, cond: Condition, to: u16, at: Addr, mem: &mut [u
 
 pub fn jr(cpu: Cpu, port: Port, cond: Condition, by: u16, at: Addr, mem: &mut [u8]) -> Worked
     requires { ⌜ length (now mem) ≡ 65536 ⌝ }
-    ensures { λ r. ⌜ Leads (jrMade cond (at .0) by) cpu port (now (mem .entry)) (madeBy r) (r .cpu) (r .port) (now (mem .exit)) × (length (now (mem .exit)) ≡ 65536) ⌝ }
+    ensures { λ r. ⌜ Runs (jrMade cond (at .0) by) cpu port (now (mem .entry)) (madeBy r) (r .cpu) (r .port) (now (mem .exit)) ⌝ }
 {
     let regs = cpu.registers;
     let go = check_cond(cond, regs.f);
@@ -78,7 +78,7 @@ pub fn jr(cpu: Cpu, port: Port, cond: Condition, by: u16, at: Addr, mem: &mut [u
 // The way back to the stack, then PC.
 pub fn call_to(cpu: Cpu, port: Port, to: u16, mem: &mut [u8]) -> Worked
     requires { ⌜ length (now mem) ≡ 65536 ⌝ }
-    ensures { λ r. ⌜ Leads (callMade to) cpu port (now (mem .entry)) (madeBy r) (r .cpu) (r .port) (now (mem .exit)) × (length (now (mem .exit)) ≡ 65536) ⌝ }
+    ensures { λ r. ⌜ Runs (callMade to) cpu port (now (mem .entry)) (madeBy r) (r .cpu) (r .port) (now (mem .exit)) ⌝ }
 {
     let p = idle(port, mem);
     let back = cpu.registers;
@@ -93,7 +93,7 @@ pub fn call_to(cpu: Cpu, port: Port, to: u16, mem: &mut [u8]) -> Worked
 
 pub fn call(cpu: Cpu, port: Port, cond: Condition, to: u16, mem: &mut [u8]) -> Worked
     requires { ⌜ length (now mem) ≡ 65536 ⌝ }
-    ensures { λ r. ⌜ Leads (callIfMade cond to) cpu port (now (mem .entry)) (madeBy r) (r .cpu) (r .port) (now (mem .exit)) × (length (now (mem .exit)) ≡ 65536) ⌝ }
+    ensures { λ r. ⌜ Runs (callIfMade cond to) cpu port (now (mem .entry)) (madeBy r) (r .cpu) (r .port) (now (mem .exit)) ⌝ }
 {
     let regs = cpu.registers;
     let go = check_cond(cond, regs.f);
@@ -106,7 +106,7 @@ pub fn call(cpu: Cpu, port: Port, cond: Condition, to: u16, mem: &mut [u8]) -> W
 
 fn ret_now(cpu: Cpu, port: Port, mem: &mut [u8]) -> Worked
     requires { ⌜ length (now mem) ≡ 65536 ⌝ }
-    ensures { λ r. ⌜ Leads retMade cpu port (now (mem .entry)) (madeBy r) (r .cpu) (r .port) (now (mem .exit)) × (length (now (mem .exit)) ≡ 65536) ⌝ }
+    ensures { λ r. ⌜ Runs retMade cpu port (now (mem .entry)) (madeBy r) (r .cpu) (r .port) (now (mem .exit)) ⌝ }
 {
     let x = stack_pop(cpu, port, mem);
     let s = x.cpu;
@@ -121,14 +121,14 @@ fn ret_now(cpu: Cpu, port: Port, mem: &mut [u8]) -> Worked
 // A return that is not sure waits before its condition is looked at.
 fn idle_unless(sure: bool, port: Port, mem: &mut [u8]) -> Port
     requires { ⌜ length (now mem) ≡ 65536 ⌝ }
-    ensures { λ r. ⌜ (r ≡ (if sure then port else counted port)) × (now (mem .exit) ≡ now (mem .entry)) × (length (now (mem .exit)) ≡ 65536) ⌝ }
+    ensures { λ r. ⌜ IdlesUnless sure port (now (mem .entry)) r (now (mem .exit)) ⌝ }
 {
     if sure { port } else { idle(port, mem) }
 }
 
 pub fn ret(cpu: Cpu, port: Port, cond: Condition, mem: &mut [u8]) -> Worked
     requires { ⌜ length (now mem) ≡ 65536 ⌝ }
-    ensures { λ r. ⌜ Leads (retIfMade cond) cpu port (now (mem .entry)) (madeBy r) (r .cpu) (r .port) (now (mem .exit)) × (length (now (mem .exit)) ≡ 65536) ⌝ }
+    ensures { λ r. ⌜ Runs (retIfMade cond) cpu port (now (mem .entry)) (madeBy r) (r .cpu) (r .port) (now (mem .exit)) ⌝ }
 {
     let p = idle_unless(is_unconditional(cond), port, mem);
     let regs = cpu.registers;
@@ -142,7 +142,7 @@ pub fn ret(cpu: Cpu, port: Port, cond: Condition, mem: &mut [u8]) -> Worked
 
 pub fn reti(cpu: Cpu, port: Port, mem: &mut [u8]) -> Worked
     requires { ⌜ length (now mem) ≡ 65536 ⌝ }
-    ensures { λ r. ⌜ Leads retiMade cpu port (now (mem .entry)) (madeBy r) (r .cpu) (r .port) (now (mem .exit)) × (length (now (mem .exit)) ≡ 65536) ⌝ }
+    ensures { λ r. ⌜ Runs retiMade cpu port (now (mem .entry)) (madeBy r) (r .cpu) (r .port) (now (mem .exit)) ⌝ }
 {
     let x = stack_pop(cpu, port, mem);
     let p = x.port;

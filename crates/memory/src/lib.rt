@@ -1,10 +1,17 @@
-// Plain memory: the 65,536 bytes that the caller lends, and a port that counts the M-cycles.
+// Plain memory: the 65,536 bytes that the caller lends, and a port that counts the M-cycles. The bus is shut: a read, a
+// write and an idle access each say where the definition's node leads, and nothing else of port or bytes.
 ghost use mathlib.Core.Path.{_≡_};
-ghost use lib.ListN.{length, set};
-ghost use Rattle.definition.specs.Bus.{byteAt};
-ghost use Rattle.memory.specs.World.{counted};
+ghost use lib.ListN.{length};
+ghost use Rattle.memory.specs.World.{kindOf, counted, Reads, Writes, Idles};
 use sm83::Addr;
 use sm83::MCycles;
+
+// What an access is for, as its caller says. Plain memory does the same for each.
+pub enum AccessKind {
+    Fetch,
+    Operand,
+    Stack,
+}
 
 pub struct Port {
     pub cycles: MCycles,
@@ -24,9 +31,9 @@ fn tick(port: Port) -> Port
     Port { cycles: m }
 }
 
-pub fn read(port: Port, mem: &mut [u8], a: Addr) -> Got
+pub fn read(port: Port, mem: &mut [u8], kind: AccessKind, a: Addr) -> Got
     requires { ⌜ length (now mem) ≡ 65536 ⌝ }
-    ensures { λ r. ⌜ (r .value ≡ byteAt (now (mem .entry)) (a .0)) × (r .port ≡ counted port) × (now (mem .exit) ≡ now (mem .entry)) × (length (now (mem .exit)) ≡ 65536) ⌝ }
+    ensures { λ r. ⌜ Reads (kindOf kind) (a .0) port (now (mem .entry)) (r .value) (r .port) (now (mem .exit)) ⌝ }
 {
     let at = a.0 as usize;
     let v = mem[at];
@@ -36,9 +43,9 @@ pub fn read(port: Port, mem: &mut [u8], a: Addr) -> Got
     }
 }
 
-pub fn write(port: Port, mem: &mut [u8], a: Addr, v: u8) -> Port
+pub fn write(port: Port, mem: &mut [u8], kind: AccessKind, a: Addr, v: u8) -> Port
     requires { ⌜ length (now mem) ≡ 65536 ⌝ }
-    ensures { λ r. ⌜ (r ≡ counted port) × (now (mem .exit) ≡ set (now (mem .entry)) (a .0) v) × (length (now (mem .exit)) ≡ 65536) ⌝ }
+    ensures { λ r. ⌜ Writes (kindOf kind) (a .0) v port (now (mem .entry)) r (now (mem .exit)) ⌝ }
 {
     let at = a.0 as usize;
     mem[at] = v;
@@ -48,7 +55,7 @@ pub fn write(port: Port, mem: &mut [u8], a: Addr, v: u8) -> Port
 // `advance_bus` of the Rust, whose `read(0)` changes nothing on plain memory.
 pub fn idle(port: Port, mem: &mut [u8]) -> Port
     requires { ⌜ length (now mem) ≡ 65536 ⌝ }
-    ensures { λ r. ⌜ (r ≡ counted port) × (now (mem .exit) ≡ now (mem .entry)) × (length (now (mem .exit)) ≡ 65536) ⌝ }
+    ensures { λ r. ⌜ Idles port (now (mem .entry)) r (now (mem .exit)) ⌝ }
 {
     tick(port)
 }

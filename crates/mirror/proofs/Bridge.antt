@@ -1,7 +1,6 @@
 -- The row of 001's tables for each instruction of the definition leads where the definition leads, from any state and memory of bytes, whatever comes next; and the code can run each of them.
 use mathlib.Core.Path.{_≡_, refl}
 use mathlib.Core.Bool.{Bool, true, false, _&&_, _||_}
-use mathlib.Core.List.{List}
 use Prim.Native.Nat.{ℕ, _<_}
 use lib.Dec.{eqb, T}
 use Rattle.sm83.specs.declared.Cpu.{Cpu}
@@ -13,8 +12,7 @@ use Rattle.definition.specs.Execution.{Does, _>>_, prefixed, normal, execute, e
 use Rattle.definition.specs.Step.{Ended}
 use Rattle.opcodes.proofs.Tested.{and-left, and-right, below, at}
 use Rattle.instruction.specs.Row.{rowOf, prefixedRow}
-use Rattle.memory.specs.declared.Port.{Port}
-use Rattle.memory.specs.World.{world, leads}
+use Rattle.memory.specs.World.{World, leads}
 use Rattle.mirror.specs.Mirror.{execRow, mirroring}
 use Rattle.mirror.specs.Runnable.{runnable}
 use Rattle.ranges.proofs.Ranges.{Bytes}
@@ -34,11 +32,11 @@ unprefixed EI = true
 unprefixed LD-B-B = true
 unprefixed ILLEGAL = true
 
-module _ (m : List ℕ) (bytes : Bytes m) (at-pc : ℕ) (s : Cpu) (regs : ByteRegisters (s .registers)) (k : Outcome → Cpu → Ask Ended) (port : Port) where
-  pub row-leads : (i : defined.Instruction) → T (unprefixed i) → leads (execRow (rowOf i) at-pc s k) (world port m) ≡ leads (execute at-pc i s k) (world port m)
+module _ (w : World) (bytes : Bytes (w .bytes)) (at-pc : ℕ) (s : Cpu) (regs : ByteRegisters (s .registers)) (k : Outcome → Cpu → Ask Ended) where
+  pub row-leads : (i : defined.Instruction) → T (unprefixed i) → leads (execRow (rowOf i) at-pc s k) w ≡ leads (execute at-pc i s k) w
   unfolding executing mirroring leads
-  row-leads (does w) h = work-row m bytes at-pc s regs k w port
-  row-leads (goes j) h = jump-row at-pc s k j (world port m)
+  row-leads (does i) h = work-row w bytes at-pc s regs k i
+  row-leads (goes j) h = jump-row at-pc s k j w
   row-leads CB-prefix h = absurd h
   row-leads HALT h = refl
   row-leads STOP h = refl
@@ -46,8 +44,8 @@ module _ (m : List ℕ) (bytes : Bytes m) (at-pc : ℕ) (s : Cpu) (regs : ByteRe
   row-leads LD-B-B h = refl
   row-leads ILLEGAL h = refl
 
-  pub prefixed-row-leads : (b : ℕ) → leads (execRow (prefixedRow (decodeCB b)) at-pc s k) (world port m) ≡ leads ((do prefixed (decodeCB b); normal) s k) (world port m)
-  prefixed-row-leads b = prefixed-row m bytes at-pc s regs k (decodeCB b) (decoded-one-of-eight b) port
+  pub prefixed-row-leads : (b : ℕ) → leads (execRow (prefixedRow (decodeCB b)) at-pc s k) w ≡ leads ((do prefixed (decodeCB b); normal) s k) w
+  prefixed-row-leads b = prefixed-row w bytes at-pc s regs k (decodeCB b) (decoded-one-of-eight b)
 
 -- Each byte but CB is a row that the code can run, and each byte after CB: computed.
 

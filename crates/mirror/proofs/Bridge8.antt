@@ -1,38 +1,37 @@
 -- An r8 operand: 001 reads and writes it as the definition does, if what is read and written are bytes. One law for reading and one for writing, whatever comes next.
 use mathlib.Core.Path.{_≡_, refl, ap, _∙_}
-use mathlib.Core.List.{List}
 use Prim.Native.Nat.{ℕ, _<_}
 use Rattle.sm83.specs.declared.Cpu.{Cpu}
 use Rattle.sm83.specs.Basics.{lowByte}
-use Rattle.definition.specs.Bus.{Ask}
+use Rattle.definition.specs.Bus.{Operand, Ask}
 use Rattle.sm83.specs.State.{pairHL, flags, setF}
 use Rattle.opcodes.specs.Arithmetic.{Result}
 use Rattle.opcodes.specs.Instruction.{Reg8, rB, rC, rD, rE, rH, rL, [HL], rA}
 use Rattle.definition.specs.Execution.{get8, put8, into8}
 use Rattle.definition.specs.Step.{Ended}
 use Rattle.instruction.specs.Row.{operand8}
-use Rattle.memory.specs.declared.Port.{Port}
-use Rattle.memory.specs.World.{world, leads, counted}
+use Rattle.memory.specs.World.{World, leads, afterRead}
+use Rattle.memory.proofs.Bytes.{shows-byte}
 use Rattle.mirror.specs.Operands.{readOperand, writeOperand}
 use Rattle.mirror.specs.Mirror.{mirroring}
 use Rattle.ranges.proofs.Ranges.{Bytes}
 use Rattle.mirror.proofs.Small.{ByteRegisters, kept}
 
 -- equal trees lead to equal ends
-pub on : (m : List ℕ) (port : Port) {p q : Ask Ended} → p ≡ q → leads p (world port m) ≡ leads q (world port m)
-on m port e = ap (λ (t : Ask Ended). leads t (world port m)) e
+pub on : (w : World) {p q : Ask Ended} → p ≡ q → leads p w ≡ leads q w
+on w e = ap (λ (t : Ask Ended). leads t w) e
 
-module _ (m : List ℕ) (bytes : Bytes m) (s : Cpu) (regs : ByteRegisters (s .registers)) (k j : ℕ → Cpu → Ask Ended) (same : (v : ℕ) (port : Port) → v < 256 → leads (k v s) (world port m) ≡ leads (j v s) (world port m)) where
-  pub reads : (r : Reg8) (port : Port) → leads (readOperand (operand8 r) s k) (world port m) ≡ leads (get8 r s j) (world port m)
+module _ (w : World) (bytes : Bytes (w .bytes)) (s : Cpu) (regs : ByteRegisters (s .registers)) (k j : ℕ → Cpu → Ask Ended) (same : (v : ℕ) (x : World) → v < 256 → leads (k v s) x ≡ leads (j v s) x) where
+  pub reads : (r : Reg8) → leads (readOperand (operand8 r) s k) w ≡ leads (get8 r s j) w
   unfolding leads mirroring get8
-  reads rB port = same (s .registers .b) port (regs .small-b)
-  reads rC port = same (s .registers .c) port (regs .small-c)
-  reads rD port = same (s .registers .d) port (regs .small-d)
-  reads rE port = same (s .registers .e) port (regs .small-e)
-  reads rH port = same (s .registers .h) port (regs .small-h)
-  reads rL port = same (s .registers .l) port (regs .small-l)
-  reads [HL] port = same _ (counted port) (bytes (pairHL (s .registers)))
-  reads rA port = same (s .registers .a) port (regs .small-a)
+  reads rB = same (s .registers .b) w (regs .small-b)
+  reads rC = same (s .registers .c) w (regs .small-c)
+  reads rD = same (s .registers .d) w (regs .small-d)
+  reads rE = same (s .registers .e) w (regs .small-e)
+  reads rH = same (s .registers .h) w (regs .small-h)
+  reads rL = same (s .registers .l) w (regs .small-l)
+  reads [HL] = same _ (afterRead Operand w (pairHL (s .registers))) (shows-byte w (pairHL (s .registers)) bytes)
+  reads rA = same (s .registers .a) w (regs .small-a)
 
 writes-low : (r : Reg8) (v : ℕ) (s : Cpu) (k : Unit {0} → Cpu → Ask Ended) → writeOperand (operand8 r) v s k ≡ put8 r (lowByte v) s k
 unfolding mirroring put8

@@ -15,8 +15,7 @@ use Rattle.opcodes.specs.Instruction.{Reg8, Shift, RLC, RRC, RL, RR, SLA, SRA, 
 use Rattle.definition.specs.Execution.{Does, _>>_, into8, put8, prefixed, normal, executing}
 use Rattle.definition.specs.Step.{Ended}
 use Rattle.instruction.specs.Row.{operand8, shiftCode, prefixedRow}
-use Rattle.memory.specs.declared.Port.{Port}
-use Rattle.memory.specs.World.{world, leads}
+use Rattle.memory.specs.World.{World, leads}
 use Rattle.mirror.specs.Operands.{writeOperand}
 use Rattle.mirror.specs.Mirror.{compute, execRow, mirroring}
 use Rattle.ranges.proofs.Ranged.{shift-sound, cleared-byte, raised-byte}
@@ -40,7 +39,7 @@ decoded-one-of-eight b = by-quarter (b / 64) (shift (b / 8 % 8)) (reg8 (b % 8)) 
     by-quarter (suc (suc zero)) o r n h = h
     by-quarter (suc (suc (suc q))) o r n h = h
 
-module _ (m : List ℕ) (bytes : Bytes m) (at : ℕ) (s : Cpu) (regs : ByteRegisters (s .registers)) (k : Outcome → Cpu → Ask Ended) where
+module _ (w : World) (bytes : Bytes (w .bytes)) (at : ℕ) (s : Cpu) (regs : ByteRegisters (s .registers)) (k : Outcome → Cpu → Ask Ended) where
   shift-rest : (o : Shift) (r : Reg8) (v : ℕ) → v < 256 → compute (shiftCode o) at v s (λ w t. writeOperand (operand8 r) (w .value) t (λ _ u. k (w .outcome) u)) ≡ into8 r (shiftOp o v (flags s)) s (λ _ t. k Normal t)
   unfolding mirroring
   shift-rest RLC r v h = written (shiftOp RLC) r v s _ h (shift-sound RLC v (flags s) h .0)
@@ -52,9 +51,9 @@ module _ (m : List ℕ) (bytes : Bytes m) (at : ℕ) (s : Cpu) (regs : ByteRegis
   shift-rest SWAP r v h = written (shiftOp SWAP) r v s _ h (shift-sound SWAP v (flags s) h .0)
   shift-rest SRL r v h = written (shiftOp SRL) r v s _ h (shift-sound SRL v (flags s) h .0)
 
-  pub prefixed-row : (x : Prefixed) → OneOfEight x → (port : Port) → leads (execRow (prefixedRow x) at s k) (world port m) ≡ leads ((do prefixed x; normal) s k) (world port m)
+  pub prefixed-row : (x : Prefixed) → OneOfEight x → leads (execRow (prefixedRow x) at s k) w ≡ leads ((do prefixed x; normal) s k) w
   unfolding executing mirroring
-  prefixed-row (SHIFT-r8 o r) eighth port = reads m bytes s regs _ _ (λ v port h. on m port (shift-rest o r v h)) r port
-  prefixed-row (BIT-u3-r8 n r) eighth port = reads m bytes s regs _ _ (λ v port h. on m port (ap (λ (x : ℕ). k Normal (setF (bitTest n x (flags s)) s)) (kept h))) r port
-  prefixed-row (RES-u3-r8 n r) eighth port = reads m bytes s regs _ _ (λ v port h. on m port (ap (λ (x : ℕ). writeOperand (operand8 r) (cleared n x) s (λ _ t. k Normal t)) (kept h) ∙ writes r (cleared n v) s _ (cleared-byte n v h))) r port
-  prefixed-row (SET-u3-r8 n r) eighth port = reads m bytes s regs _ _ (λ v port h. on m port (ap (λ (x : ℕ). writeOperand (operand8 r) (raised n x) s (λ _ t. k Normal t)) (kept h) ∙ writes r (raised n v) s _ (raised-byte n v eighth h))) r port
+  prefixed-row (SHIFT-r8 o r) eighth = reads w bytes s regs _ _ (λ v x h. on x (shift-rest o r v h)) r
+  prefixed-row (BIT-u3-r8 n r) eighth = reads w bytes s regs _ _ (λ v x h. on x (ap (λ (x : ℕ). k Normal (setF (bitTest n x (flags s)) s)) (kept h))) r
+  prefixed-row (RES-u3-r8 n r) eighth = reads w bytes s regs _ _ (λ v x h. on x (ap (λ (x : ℕ). writeOperand (operand8 r) (cleared n x) s (λ _ t. k Normal t)) (kept h) ∙ writes r (cleared n v) s _ (cleared-byte n v h))) r
+  prefixed-row (SET-u3-r8 n r) eighth = reads w bytes s regs _ _ (λ v x h. on x (ap (λ (x : ℕ). writeOperand (operand8 r) (raised n x) s (λ _ t. k Normal t)) (kept h) ∙ writes r (raised n v) s _ (raised-byte n v eighth h))) r

@@ -1,13 +1,12 @@
 -- What goes on to the next instruction: the row of 001 leads where the definition leads, one clause for each form.
 use mathlib.Core.Path.{_≡_, refl, ap, _∙_}
-use mathlib.Core.List.{List}
 use Prim.Native.Nat.{ℕ, _<_}
 use native.Mathlib.Omega.{arith}
 use Rattle.sm83.specs.declared.Cpu.{Cpu}
 use Rattle.outcome.specs.declared.Outcome.{Outcome}
 use Rattle.outcome.specs.declared.Outcome.the-variants.{Normal}
 use Rattle.sm83.specs.Basics.{lowByte, next}
-use Rattle.definition.specs.Bus.{Ask, byteAt}
+use Rattle.definition.specs.Bus.{Operand, Ask}
 use Rattle.sm83.specs.State.{pc, writeA, onRegisters, setF, setPC}
 use Rattle.opcodes.specs.Arithmetic.{Result, aluOp, difference, increment, decrement}
 use Rattle.opcodes.specs.Instruction.{Reg16, rBC, rDE, rHL, rSP, pBC, pDE, pHL, pAF, [BC], [DE], [HL+], [HL-], Alu, ADD, ADC, SUB, SBC, AND, XOR, OR, CP, RLCA, RRCA, RLA, RRA, DAA, CPL, SCF, CCF, does}
@@ -17,8 +16,8 @@ use Rattle.definition.specs.Step.{Ended}
 use Rattle.operands.specs.declared.OperandType.{OperandType}
 use Rattle.instruction.specs.declared.Instruction.{Instruction}
 use Rattle.instruction.specs.Row.{operand16, aluRow, workRow}
-use Rattle.memory.specs.declared.Port.{Port}
-use Rattle.memory.specs.World.{world, leads, counted}
+use Rattle.memory.specs.World.{World, leads, shown, afterRead, afterIdle}
+use Rattle.memory.proofs.Bytes.{shows-byte, read-keeps}
 use Rattle.mirror.specs.Operands.{readOperand, writeOperand}
 use Rattle.mirror.specs.Mirror.{compute, execRow, mirroring}
 use Rattle.ranges.proofs.Ranged.{alu-sound}
@@ -77,56 +76,72 @@ alu-reads XOR src at s k = refl
 alu-reads OR src at s k = refl
 alu-reads CP src at s k = refl
 
-module _ (m : List ℕ) (bytes : Bytes m) (at : ℕ) (s : Cpu) (regs : ByteRegisters (s .registers)) (k : Outcome → Cpu → Ask Ended) where
+module _ (w : World) (bytes : Bytes (w .bytes)) (at : ℕ) (s : Cpu) (regs : ByteRegisters (s .registers)) (k : Outcome → Cpu → Ask Ended) where
   -- a byte of memory into A
-  loaded : (a : ℕ) (t : Cpu) → k Normal (onRegisters (writeA (lowByte (byteAt m a))) t) ≡ k Normal (onRegisters (writeA (byteAt m a)) t)
-  loaded a t = ap (λ (v : ℕ). k Normal (onRegisters (writeA v) t)) (kept (bytes a))
+  loaded : (v : World) → Bytes (v .bytes) → (a : ℕ) (t : Cpu) → leads (k Normal (onRegisters (writeA (lowByte (shown v a))) t)) (afterRead Operand v a) ≡ leads (k Normal (onRegisters (writeA (shown v a)) t)) (afterRead Operand v a)
+  loaded v b a t = ap (λ (x : ℕ). leads (k Normal (onRegisters (writeA x) t)) (afterRead Operand v a)) (kept (shows-byte v a b))
 
-  pub work-row : (w : Work) (port : Port) → leads (execRow (workRow w) at s k) (world port m) ≡ leads (execute at (does w) s k) (world port m)
+  -- after one byte at PC, and after two
+  abbrev once : World
+  once = afterRead Operand w (pc s)
+
+  abbrev twice : World
+  twice = afterRead Operand once (next (pc s))
+
+  first : shown w (pc s) < 256
+  first = shows-byte w (pc s) bytes
+
+  bytes1 : Bytes (once .bytes)
+  bytes1 = read-keeps Operand w (pc s) bytes
+
+  bytes2 : Bytes (twice .bytes)
+  bytes2 = read-keeps Operand once (next (pc s)) bytes1
+
+  pub work-row : (i : Work) → leads (execRow (workRow i) at s k) w ≡ leads (execute at (does i) s k) w
   unfolding executing mirroring leads
-  work-row NOP port = refl
-  work-row DI port = refl
-  work-row (LD-r8-r8 to from) port = reads m bytes s regs _ _ (λ v port h. on m port (writes to v s _ h)) from port
-  work-row (LD-r8-n8 to) port = on m (counted port) (writes to _ _ _ (bytes (pc s)))
-  work-row (LD-r16-n16 to) port = on m (counted (counted port)) (writes16 to _ _ _)
-  work-row (LD-[r16]-A [BC]) port = rw (kept (regs .small-a))
-  work-row (LD-[r16]-A [DE]) port = rw (kept (regs .small-a))
-  work-row (LD-[r16]-A [HL+]) port = rw (kept (regs .small-a))
-  work-row (LD-[r16]-A [HL-]) port = rw (kept (regs .small-a))
-  work-row (LD-A-[r16] [BC]) port = on m (counted port) (loaded _ s)
-  work-row (LD-A-[r16] [DE]) port = on m (counted port) (loaded _ s)
-  work-row (LD-A-[r16] [HL+]) port = on m (counted port) (loaded _ (onRegisters (moved [HL+]) s))
-  work-row (LD-A-[r16] [HL-]) port = on m (counted port) (loaded _ (onRegisters (moved [HL-]) s))
-  work-row LD-[n16]-A port = rw (kept (regs .small-a))
-  work-row LD-A-[n16] port = on m (counted (counted (counted port))) (loaded _ (setPC (next (next (pc s))) s))
-  work-row LDH-[n8]-A port = rw (kept (regs .small-a))
-  work-row LDH-A-[n8] port = on m (counted (counted port)) (loaded _ (setPC (next (pc s)) s))
-  work-row LDH-[C]-A port = rw (kept (regs .small-a))
-  work-row LDH-A-[C] port = on m (counted port) (loaded _ s)
-  work-row LD-[n16]-SP port = refl
-  work-row LD-SP-HL port = refl
-  work-row LD-HL-SP+e8 port = rw (signed-low (bytes (pc s)), leads)
-  work-row ADD-SP-e8 port = rw (signed-low (bytes (pc s)), leads)
-  work-row (ALU-A-r8 o from) port = on m port (alu-reads o _ at s k) ∙ reads m bytes s regs _ _ (λ v port h. on m port (alu-rest o _ at v s k (regs .small-a) h)) from port
-  work-row (ALU-A-n8 o) port = on m port (alu-reads o _ at s k) ∙ on m (counted port) (alu-rest o _ at _ _ k (regs .small-a) (bytes (pc s)))
-  work-row (ACC RLCA) port = refl
-  work-row (ACC RRCA) port = refl
-  work-row (ACC RLA) port = refl
-  work-row (ACC RRA) port = refl
-  work-row (ACC DAA) port = refl
-  work-row (ACC CPL) port = refl
-  work-row (ACC SCF) port = refl
-  work-row (ACC CCF) port = refl
-  work-row (INC-r8 to) port = reads m bytes s regs _ _ (λ v port h. on m port (written increment to v s _ h (omega arith))) to port
-  work-row (DEC-r8 to) port = reads m bytes s regs _ _ (λ v port h. on m port (written decrement to v s _ h (omega arith))) to port
-  work-row (INC-r16 to) port = on m port (reads16 to s _) ∙ on m (counted port) (writes16 to _ _ _)
-  work-row (DEC-r16 to) port = on m port (reads16 to s _) ∙ on m (counted port) (writes16 to _ _ _)
-  work-row (ADD-HL-r16 from) port = on m port (reads16 from s _)
-  work-row (PUSH-r16 pBC) port = refl
-  work-row (PUSH-r16 pDE) port = refl
-  work-row (PUSH-r16 pHL) port = refl
-  work-row (PUSH-r16 pAF) port = refl
-  work-row (POP-r16 pBC) port = refl
-  work-row (POP-r16 pDE) port = refl
-  work-row (POP-r16 pHL) port = refl
-  work-row (POP-r16 pAF) port = refl
+  work-row NOP = refl
+  work-row DI = refl
+  work-row (LD-r8-r8 to from) = reads w bytes s regs _ _ (λ v x h. on x (writes to v s _ h)) from
+  work-row (LD-r8-n8 to) = on once (writes to _ _ _ first)
+  work-row (LD-r16-n16 to) = on twice (writes16 to _ _ _)
+  work-row (LD-[r16]-A [BC]) = rw (kept (regs .small-a))
+  work-row (LD-[r16]-A [DE]) = rw (kept (regs .small-a))
+  work-row (LD-[r16]-A [HL+]) = rw (kept (regs .small-a))
+  work-row (LD-[r16]-A [HL-]) = rw (kept (regs .small-a))
+  work-row (LD-A-[r16] [BC]) = loaded w bytes _ s
+  work-row (LD-A-[r16] [DE]) = loaded w bytes _ s
+  work-row (LD-A-[r16] [HL+]) = loaded w bytes _ (onRegisters (moved [HL+]) s)
+  work-row (LD-A-[r16] [HL-]) = loaded w bytes _ (onRegisters (moved [HL-]) s)
+  work-row LD-[n16]-A = rw (kept (regs .small-a))
+  work-row LD-A-[n16] = loaded twice bytes2 _ (setPC (next (next (pc s))) s)
+  work-row LDH-[n8]-A = rw (kept (regs .small-a))
+  work-row LDH-A-[n8] = loaded once bytes1 _ (setPC (next (pc s)) s)
+  work-row LDH-[C]-A = rw (kept (regs .small-a))
+  work-row LDH-A-[C] = loaded w bytes _ s
+  work-row LD-[n16]-SP = refl
+  work-row LD-SP-HL = refl
+  work-row LD-HL-SP+e8 = rw (signed-low first, leads)
+  work-row ADD-SP-e8 = rw (signed-low first, leads)
+  work-row (ALU-A-r8 o from) = on w (alu-reads o _ at s k) ∙ reads w bytes s regs _ _ (λ v x h. on x (alu-rest o _ at v s k (regs .small-a) h)) from
+  work-row (ALU-A-n8 o) = on w (alu-reads o _ at s k) ∙ on once (alu-rest o _ at _ _ k (regs .small-a) first)
+  work-row (ACC RLCA) = refl
+  work-row (ACC RRCA) = refl
+  work-row (ACC RLA) = refl
+  work-row (ACC RRA) = refl
+  work-row (ACC DAA) = refl
+  work-row (ACC CPL) = refl
+  work-row (ACC SCF) = refl
+  work-row (ACC CCF) = refl
+  work-row (INC-r8 to) = reads w bytes s regs _ _ (λ v x h. on x (written increment to v s _ h (omega arith))) to
+  work-row (DEC-r8 to) = reads w bytes s regs _ _ (λ v x h. on x (written decrement to v s _ h (omega arith))) to
+  work-row (INC-r16 to) = on w (reads16 to s _) ∙ on (afterIdle w) (writes16 to _ _ _)
+  work-row (DEC-r16 to) = on w (reads16 to s _) ∙ on (afterIdle w) (writes16 to _ _ _)
+  work-row (ADD-HL-r16 from) = on w (reads16 from s _)
+  work-row (PUSH-r16 pBC) = refl
+  work-row (PUSH-r16 pDE) = refl
+  work-row (PUSH-r16 pHL) = refl
+  work-row (PUSH-r16 pAF) = refl
+  work-row (POP-r16 pBC) = refl
+  work-row (POP-r16 pDE) = refl
+  work-row (POP-r16 pHL) = refl
+  work-row (POP-r16 pAF) = refl

@@ -2,7 +2,7 @@
 ghost use mathlib.Core.Path.{_≡_};
 ghost use lib.ListN.{length};
 ghost use Rattle.operands.specs.declared.OperandType.the-variants.{AddrHLDec, AddrHLInc, HighAddr8, Addr16, Addr16Val16};
-ghost use Rattle.accesses.specs.Leads.{Leads};
+ghost use Rattle.accesses.specs.Leads.{Runs};
 ghost use Rattle.mirror.specs.Operands.{writeOperand};
 use accesses::Both;
 use accesses::access::high;
@@ -10,17 +10,18 @@ use accesses::access::store;
 use accesses::fetch::fetch_next_pc;
 use accesses::fetch::fetch16;
 use accesses::states::with_registers;
+use memory::AccessKind;
 use memory::Port;
 use sm83::Addr;
 use sm83::Cpu;
 
 pub fn write_hl_dec(cpu: Cpu, port: Port, value: u16, mem: &mut [u8]) -> Both
     requires { ⌜ length (now mem) ≡ 65536 ⌝ }
-    ensures { λ r. ⌜ Leads (writeOperand AddrHLDec value) cpu port (now (mem .entry)) tt (r .cpu) (r .port) (now (mem .exit)) × (length (now (mem .exit)) ≡ 65536) ⌝ }
+    ensures { λ r. ⌜ Runs (writeOperand AddrHLDec value) cpu port (now (mem .entry)) tt (r .cpu) (r .port) (now (mem .exit)) ⌝ }
 {
     let regs = cpu.registers;
     let hl = Addr(regs.reg_hl_read());
-    let p = memory::write(port, mem, hl, (value % 256) as u8);
+    let p = memory::write(port, mem, AccessKind::Operand, hl, (value % 256) as u8);
     let after = hl.wrapping_sub(1);
     let s = with_registers(cpu, regs.reg_hl_write(after.0));
     Both { cpu: s, port: p }
@@ -28,11 +29,11 @@ pub fn write_hl_dec(cpu: Cpu, port: Port, value: u16, mem: &mut [u8]) -> Both
 
 pub fn write_hl_inc(cpu: Cpu, port: Port, value: u16, mem: &mut [u8]) -> Both
     requires { ⌜ length (now mem) ≡ 65536 ⌝ }
-    ensures { λ r. ⌜ Leads (writeOperand AddrHLInc value) cpu port (now (mem .entry)) tt (r .cpu) (r .port) (now (mem .exit)) × (length (now (mem .exit)) ≡ 65536) ⌝ }
+    ensures { λ r. ⌜ Runs (writeOperand AddrHLInc value) cpu port (now (mem .entry)) tt (r .cpu) (r .port) (now (mem .exit)) ⌝ }
 {
     let regs = cpu.registers;
     let hl = Addr(regs.reg_hl_read());
-    let p = memory::write(port, mem, hl, (value % 256) as u8);
+    let p = memory::write(port, mem, AccessKind::Operand, hl, (value % 256) as u8);
     let after = hl.wrapping_add(1);
     let s = with_registers(cpu, regs.reg_hl_write(after.0));
     Both { cpu: s, port: p }
@@ -40,9 +41,9 @@ pub fn write_hl_inc(cpu: Cpu, port: Port, value: u16, mem: &mut [u8]) -> Both
 
 pub fn write_high(cpu: Cpu, port: Port, value: u16, mem: &mut [u8]) -> Both
     requires { ⌜ length (now mem) ≡ 65536 ⌝ }
-    ensures { λ r. ⌜ Leads (writeOperand HighAddr8 value) cpu port (now (mem .entry)) tt (r .cpu) (r .port) (now (mem .exit)) × (length (now (mem .exit)) ≡ 65536) ⌝ }
+    ensures { λ r. ⌜ Runs (writeOperand HighAddr8 value) cpu port (now (mem .entry)) tt (r .cpu) (r .port) (now (mem .exit)) ⌝ }
 {
-    let x = fetch_next_pc(cpu, port, mem);
+    let x = fetch_next_pc(cpu, port, AccessKind::Operand, mem);
     let s = x.cpu;
     let p = x.port;
     store(s, p, high(x.value), (value % 256) as u8, mem)
@@ -50,7 +51,7 @@ pub fn write_high(cpu: Cpu, port: Port, value: u16, mem: &mut [u8]) -> Both
 
 pub fn write_at16(cpu: Cpu, port: Port, value: u16, mem: &mut [u8]) -> Both
     requires { ⌜ length (now mem) ≡ 65536 ⌝ }
-    ensures { λ r. ⌜ Leads (writeOperand Addr16 value) cpu port (now (mem .entry)) tt (r .cpu) (r .port) (now (mem .exit)) × (length (now (mem .exit)) ≡ 65536) ⌝ }
+    ensures { λ r. ⌜ Runs (writeOperand Addr16 value) cpu port (now (mem .entry)) tt (r .cpu) (r .port) (now (mem .exit)) ⌝ }
 {
     let x = fetch16(cpu, port, mem);
     let s = x.cpu;
@@ -61,12 +62,12 @@ pub fn write_at16(cpu: Cpu, port: Port, value: u16, mem: &mut [u8]) -> Both
 // The low byte first.
 pub fn write_word_at16(cpu: Cpu, port: Port, value: u16, mem: &mut [u8]) -> Both
     requires { ⌜ length (now mem) ≡ 65536 ⌝ }
-    ensures { λ r. ⌜ Leads (writeOperand Addr16Val16 value) cpu port (now (mem .entry)) tt (r .cpu) (r .port) (now (mem .exit)) × (length (now (mem .exit)) ≡ 65536) ⌝ }
+    ensures { λ r. ⌜ Runs (writeOperand Addr16Val16 value) cpu port (now (mem .entry)) tt (r .cpu) (r .port) (now (mem .exit)) ⌝ }
 {
     let x = fetch16(cpu, port, mem);
     let s = x.cpu;
     let p = x.port;
     let a = Addr(x.value);
-    let q = memory::write(p, mem, a, (value % 256) as u8);
+    let q = memory::write(p, mem, AccessKind::Operand, a, (value % 256) as u8);
     store(s, q, a.wrapping_add(1), (value / 256) as u8, mem)
 }

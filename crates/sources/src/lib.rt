@@ -6,7 +6,7 @@ ghost use lib.Dec.{T};
 ghost use lib.ListN.{length};
 ghost use Rattle.definition.specs.Execution.{imm8, give};
 ghost use Rattle.operands.specs.declared.OperandType.the-variants.{AddrHLDec, AddrHLInc, Imm8Signed, HighAddr8, Addr16};
-ghost use Rattle.accesses.specs.Leads.{Leads};
+ghost use Rattle.accesses.specs.Leads.{Leads, Runs};
 ghost use Rattle.mirror.specs.Operands.{readOperand};
 ghost use Rattle.operands.specs.Operand.{readable};
 use accesses::Val16;
@@ -16,6 +16,7 @@ use accesses::fetch::fetch_next_pc;
 use accesses::fetch::fetch16;
 use accesses::states::with_registers;
 use alu16::sign_extended;
+use memory::AccessKind;
 use memory::Port;
 use operands::OperandType;
 use sm83::Addr;
@@ -23,11 +24,11 @@ use sm83::Cpu;
 
 fn read_hl_dec(cpu: Cpu, port: Port, mem: &mut [u8]) -> Val16
     requires { ⌜ length (now mem) ≡ 65536 ⌝ }
-    ensures { λ r. ⌜ Leads (readOperand AddrHLDec) cpu port (now (mem .entry)) (r .value) (r .cpu) (r .port) (now (mem .exit)) × (length (now (mem .exit)) ≡ 65536) ⌝ }
+    ensures { λ r. ⌜ Runs (readOperand AddrHLDec) cpu port (now (mem .entry)) (r .value) (r .cpu) (r .port) (now (mem .exit)) ⌝ }
 {
     let regs = cpu.registers;
     let hl = Addr(regs.reg_hl_read());
-    let got = memory::read(port, mem, hl);
+    let got = memory::read(port, mem, AccessKind::Operand, hl);
     let p = got.port;
     let after = hl.wrapping_sub(1);
     let s = with_registers(cpu, regs.reg_hl_write(after.0));
@@ -40,11 +41,11 @@ fn read_hl_dec(cpu: Cpu, port: Port, mem: &mut [u8]) -> Val16
 
 fn read_hl_inc(cpu: Cpu, port: Port, mem: &mut [u8]) -> Val16
     requires { ⌜ length (now mem) ≡ 65536 ⌝ }
-    ensures { λ r. ⌜ Leads (readOperand AddrHLInc) cpu port (now (mem .entry)) (r .value) (r .cpu) (r .port) (now (mem .exit)) × (length (now (mem .exit)) ≡ 65536) ⌝ }
+    ensures { λ r. ⌜ Runs (readOperand AddrHLInc) cpu port (now (mem .entry)) (r .value) (r .cpu) (r .port) (now (mem .exit)) ⌝ }
 {
     let regs = cpu.registers;
     let hl = Addr(regs.reg_hl_read());
-    let got = memory::read(port, mem, hl);
+    let got = memory::read(port, mem, AccessKind::Operand, hl);
     let p = got.port;
     let after = hl.wrapping_add(1);
     let s = with_registers(cpu, regs.reg_hl_write(after.0));
@@ -57,9 +58,9 @@ fn read_hl_inc(cpu: Cpu, port: Port, mem: &mut [u8]) -> Val16
 
 fn read_imm8(cpu: Cpu, port: Port, mem: &mut [u8]) -> Val16
     requires { ⌜ length (now mem) ≡ 65536 ⌝ }
-    ensures { λ r. ⌜ Leads imm8 cpu port (now (mem .entry)) (r .value) (r .cpu) (r .port) (now (mem .exit)) × (length (now (mem .exit)) ≡ 65536) ⌝ }
+    ensures { λ r. ⌜ Runs imm8 cpu port (now (mem .entry)) (r .value) (r .cpu) (r .port) (now (mem .exit)) ⌝ }
 {
-    let x = fetch_next_pc(cpu, port, mem);
+    let x = fetch_next_pc(cpu, port, AccessKind::Operand, mem);
     let s = x.cpu;
     let p = x.port;
     Val16 {
@@ -71,9 +72,9 @@ fn read_imm8(cpu: Cpu, port: Port, mem: &mut [u8]) -> Val16
 
 fn read_signed(cpu: Cpu, port: Port, mem: &mut [u8]) -> Val16
     requires { ⌜ length (now mem) ≡ 65536 ⌝ }
-    ensures { λ r. ⌜ Leads (readOperand Imm8Signed) cpu port (now (mem .entry)) (r .value) (r .cpu) (r .port) (now (mem .exit)) × (length (now (mem .exit)) ≡ 65536) ⌝ }
+    ensures { λ r. ⌜ Runs (readOperand Imm8Signed) cpu port (now (mem .entry)) (r .value) (r .cpu) (r .port) (now (mem .exit)) ⌝ }
 {
-    let x = fetch_next_pc(cpu, port, mem);
+    let x = fetch_next_pc(cpu, port, AccessKind::Operand, mem);
     let s = x.cpu;
     let p = x.port;
     Val16 {
@@ -85,9 +86,9 @@ fn read_signed(cpu: Cpu, port: Port, mem: &mut [u8]) -> Val16
 
 fn read_high(cpu: Cpu, port: Port, mem: &mut [u8]) -> Val16
     requires { ⌜ length (now mem) ≡ 65536 ⌝ }
-    ensures { λ r. ⌜ Leads (readOperand HighAddr8) cpu port (now (mem .entry)) (r .value) (r .cpu) (r .port) (now (mem .exit)) × (length (now (mem .exit)) ≡ 65536) ⌝ }
+    ensures { λ r. ⌜ Runs (readOperand HighAddr8) cpu port (now (mem .entry)) (r .value) (r .cpu) (r .port) (now (mem .exit)) ⌝ }
 {
-    let x = fetch_next_pc(cpu, port, mem);
+    let x = fetch_next_pc(cpu, port, AccessKind::Operand, mem);
     let s = x.cpu;
     let p = x.port;
     load(s, p, high(x.value), mem)
@@ -95,7 +96,7 @@ fn read_high(cpu: Cpu, port: Port, mem: &mut [u8]) -> Val16
 
 fn read_at16(cpu: Cpu, port: Port, mem: &mut [u8]) -> Val16
     requires { ⌜ length (now mem) ≡ 65536 ⌝ }
-    ensures { λ r. ⌜ Leads (readOperand Addr16) cpu port (now (mem .entry)) (r .value) (r .cpu) (r .port) (now (mem .exit)) × (length (now (mem .exit)) ≡ 65536) ⌝ }
+    ensures { λ r. ⌜ Runs (readOperand Addr16) cpu port (now (mem .entry)) (r .value) (r .cpu) (r .port) (now (mem .exit)) ⌝ }
 {
     let x = fetch16(cpu, port, mem);
     let s = x.cpu;
@@ -129,7 +130,7 @@ fn never_read(cpu: Cpu, port: Port) -> Val16
 pub fn read_operand(cpu: Cpu, port: Port, ty: OperandType, mem: &mut [u8]) -> Val16
     requires { ⌜ length (now mem) ≡ 65536 ⌝ }
     requires { ⌜ T (readable ty) ⌝ }
-    ensures { λ r. ⌜ Leads (readOperand ty) cpu port (now (mem .entry)) (r .value) (r .cpu) (r .port) (now (mem .exit)) × (length (now (mem .exit)) ≡ 65536) ⌝ }
+    ensures { λ r. ⌜ Runs (readOperand ty) cpu port (now (mem .entry)) (r .value) (r .cpu) (r .port) (now (mem .exit)) ⌝ }
 {
     match ty {
         OperandType::RegA => held(cpu, port, cpu.registers.a as u16),

@@ -2,23 +2,24 @@
 ghost use mathlib.Core.Path.{_≡_};
 ghost use lib.ListN.{length};
 ghost use Rattle.definition.specs.Execution.{push, pop};
-ghost use Rattle.accesses.specs.Leads.{Leads};
+ghost use Rattle.accesses.specs.Leads.{Runs};
 use accesses::Both;
 use accesses::Val16;
+use memory::AccessKind;
 use memory::Port;
 use sm83::Cpu;
 use sm83::registers::pair;
 
 pub fn stack_push(cpu: Cpu, port: Port, value: u16, mem: &mut [u8]) -> Both
     requires { ⌜ length (now mem) ≡ 65536 ⌝ }
-    ensures { λ r. ⌜ Leads (push value) cpu port (now (mem .entry)) tt (r .cpu) (r .port) (now (mem .exit)) × (length (now (mem .exit)) ≡ 65536) ⌝ }
+    ensures { λ r. ⌜ Runs (push value) cpu port (now (mem .entry)) tt (r .cpu) (r .port) (now (mem .exit)) ⌝ }
 {
     let mut regs = cpu.registers;
     let sp = regs.sp;
     let first = sp.wrapping_sub(1);
-    let p = memory::write(port, mem, first, (value / 256) as u8);
+    let p = memory::write(port, mem, AccessKind::Stack, first, (value / 256) as u8);
     let second = first.wrapping_sub(1);
-    let q = memory::write(p, mem, second, (value % 256) as u8);
+    let q = memory::write(p, mem, AccessKind::Stack, second, (value % 256) as u8);
     regs.sp = second;
     let mut s = cpu;
     s.registers = regs;
@@ -27,14 +28,14 @@ pub fn stack_push(cpu: Cpu, port: Port, value: u16, mem: &mut [u8]) -> Both
 
 pub fn stack_pop(cpu: Cpu, port: Port, mem: &mut [u8]) -> Val16
     requires { ⌜ length (now mem) ≡ 65536 ⌝ }
-    ensures { λ r. ⌜ Leads pop cpu port (now (mem .entry)) (r .value) (r .cpu) (r .port) (now (mem .exit)) × (length (now (mem .exit)) ≡ 65536) ⌝ }
+    ensures { λ r. ⌜ Runs pop cpu port (now (mem .entry)) (r .value) (r .cpu) (r .port) (now (mem .exit)) ⌝ }
 {
     let mut regs = cpu.registers;
     let first = regs.sp;
-    let low = memory::read(port, mem, first);
+    let low = memory::read(port, mem, AccessKind::Stack, first);
     let p = low.port;
     let second = first.wrapping_add(1);
-    let high = memory::read(p, mem, second);
+    let high = memory::read(p, mem, AccessKind::Stack, second);
     let q = high.port;
     let after = second.wrapping_add(1);
     regs.sp = after;

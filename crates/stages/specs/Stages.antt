@@ -1,40 +1,43 @@
 -- What the stages of `next_instruction` do, in the order of 000: they split the definition's step where the code's functions split it.
-use mathlib.Core.Path.{_≡_}
-use mathlib.Core.Bool.{Bool}
+use mathlib.Core.Bool.{Bool, false}
 use mathlib.Core.List.{List}
 use Prim.Native.Nat.{ℕ}
+use lib.Dec.{T}
 use Rattle.sm83.specs.declared.Cpu.{Cpu}
 use Rattle.sm83.specs.declared.HaltMode.the-variants.{NotHalting}
 use Rattle.outcome.specs.declared.Outcome.{Outcome}
 use Rattle.outcome.specs.declared.Outcome.the-variants.{Normal, Halting, RunningInterrupt}
 use Rattle.sm83.specs.Basics.{if_then_else_}
-use Rattle.definition.specs.Bus.{Ask, isInterrupt}
+use Rattle.definition.specs.Bus.{Ask, peek, isInterrupt}
 use Rattle.sm83.specs.State.{setPC, setHalt}
-use Rattle.definition.specs.Execution.{Does, _>>=_, _>>_, give, state, wait, asked}
-use Rattle.definition.specs.Step.{Ended, isAsleep, isBug, instruction, awake, woken}
+use Rattle.definition.specs.Execution.{Does, give}
+use Rattle.definition.specs.Step.{Ended, isBug, instruction, awake, rested}
 use Rattle.instruction.specs.declared.Instruction.{Instruction}
 use Rattle.memory.specs.declared.Port.{Port}
-use Rattle.memory.specs.World.{world, leads}
 use Rattle.mirror.specs.Mirror.{execRow}
+use Rattle.mirror.specs.Runnable.{runnable}
+use Rattle.accesses.specs.Leads.{Reaches}
 
--- after the fetch, if HaltBug ends there: PC goes back to `at`
-abbrev pub unbugged : Cpu → ℕ → Cpu
-unbugged s at = if isBug (s .halt) then setHalt NotHalting (setPC at s) else s
+-- point 3: what is left of the step is to end as Halting, or points 4 to 7
+abbrev pub afterHalt : Bool → Does Ended Outcome
+afterHalt halting = if halting then give Halting else awake
 
--- points 5 and 6: what is left of the step is this instruction, fetched at `at`
-abbrev pub Fetches : Cpu → Port → List ℕ → ℕ → Instruction → Cpu → Port → List ℕ → Type 0
-Fetches s port m at i s' port' m' = (k : Outcome → Cpu → Ask Ended) → leads (instruction s k) (world port m) ≡ leads (execRow i at s' k) (world port' m')
+abbrev pub Wakes : Cpu → Port → List ℕ → Bool → Cpu → Port → List ℕ → Type 0
+Wakes s port m halting = Reaches (rested s) s port m (afterHalt halting)
+
+-- point 4: whether an interrupt is taken is asked only where IME is set
+abbrev pub called : Bool → (Bool → Ask Ended) → Ask Ended
+called ime rest = if ime then peek (λ i. rest (isInterrupt i)) else rest false
 
 -- how a dispatch ends
 abbrev pub dispatched : ℕ → Outcome
 dispatched i = if isInterrupt i then RunningInterrupt i else Normal
 
--- points 3 to 7
-abbrev pub rested : {R : Type 0} → Does R Outcome
-rested = do
-  s ← state
-  if isAsleep (s .halt) then (do wait; i ← asked; if isInterrupt i then woken else give Halting) else awake
+-- point 6, after the fetch, if HaltBug ends there: PC goes back to `at`
+abbrev pub unbugged : Cpu → ℕ → Cpu
+unbugged s at = if isBug (s .halt) then setHalt NotHalting (setPC at s) else s
 
--- point 3: what is left of the step is to end as Halting, or points 4 to 7
-abbrev pub Wakes : Cpu → Port → List ℕ → Bool → Cpu → Port → List ℕ → Type 0
-Wakes s port m halting s' port' m' = (k : Outcome → Cpu → Ask Ended) → leads (rested s k) (world port m) ≡ leads ((if halting then give Halting else awake) s' k) (world port' m')
+-- points 5 and 6: what is left of the step is this instruction, fetched at `at`, which the code can run
+pub record Fetches (s : Cpu) (port : Port) (m : List ℕ) (at : ℕ) (i : Instruction) (s' : Cpu) (port' : Port) (m' : List ℕ) : Type 0 where
+  pub left : Reaches instruction s port m (execRow i at) s' port' m'
+  pub can-run : T (runnable i)

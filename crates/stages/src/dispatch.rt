@@ -1,15 +1,15 @@
 // Point 4: an interrupt is taken.
-ghost use mathlib.Core.Bool.{_&&_};
 ghost use mathlib.Core.Path.{_≡_};
 ghost use lib.ListN.{length};
-ghost use Rattle.definition.specs.Bus.{isInterrupt, pending};
 ghost use Rattle.definition.specs.Step.{dispatch};
-ghost use Rattle.accesses.specs.Leads.{Leads};
-ghost use Rattle.stages.specs.Stages.{dispatched};
+ghost use Rattle.memory.specs.World.{Looks};
+ghost use Rattle.accesses.specs.Leads.{Runs};
+ghost use Rattle.stages.specs.Stages.{called, dispatched};
 use crate::Executed;
 use interrupts::peek_next_interrupt;
 use interrupts::vector;
 use interrupts::write_and_take;
+use memory::AccessKind;
 use memory::Port;
 use outcome::Outcome;
 use sm83::Addr;
@@ -30,7 +30,7 @@ pub fn running(interrupt: u8) -> Outcome
 // 4. PC is pushed, and the interrupt is taken between its two bytes.
 pub fn dispatch(cpu: Cpu, port: Port, mem: &mut [u8]) -> Executed
     requires { ⌜ length (now mem) ≡ 65536 ⌝ }
-    ensures { λ r. ⌜ Leads dispatch cpu port (now (mem .entry)) (r .outcome) (r .cpu) (r .port) (now (mem .exit)) × (length (now (mem .exit)) ≡ 65536) ⌝ }
+    ensures { λ r. ⌜ Runs dispatch cpu port (now (mem .entry)) (r .outcome) (r .cpu) (r .port) (now (mem .exit)) ⌝ }
 {
     let mut regs = cpu.registers;
     let pc = regs.pc;
@@ -40,7 +40,7 @@ pub fn dispatch(cpu: Cpu, port: Port, mem: &mut [u8]) -> Executed
     let interrupt = got.value;
     let p = got.port;
     let second = first.wrapping_sub(1);
-    let q = memory::write(p, mem, second, (pc.0 % 256) as u8);
+    let q = memory::write(p, mem, AccessKind::Stack, second, (pc.0 % 256) as u8);
     let t = memory::idle(q, mem);
     let u = memory::idle(t, mem);
     let v = memory::idle(u, mem);
@@ -60,7 +60,7 @@ pub fn dispatch(cpu: Cpu, port: Port, mem: &mut [u8]) -> Executed
 // IME set and an interrupt pending.
 pub fn is_called(ime: bool, mem: &mut [u8]) -> bool
     requires { ⌜ length (now mem) ≡ 65536 ⌝ }
-    ensures { λ r. ⌜ (r ≡ (ime && isInterrupt (pending (now (mem .entry))))) × (now (mem .exit) ≡ now (mem .entry)) × (length (now (mem .exit)) ≡ 65536) ⌝ }
+    ensures { λ r. ⌜ Looks (called ime) (now (mem .entry)) r (now (mem .exit)) ⌝ }
 {
     if ime {
         let interrupt = peek_next_interrupt(mem);

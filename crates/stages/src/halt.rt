@@ -37,7 +37,7 @@ pub fn is_asleep(halt: HaltMode) -> bool
 fn rest(cpu: Cpu, port: Port, mem: &mut [u8]) -> Woken
     requires { ⌜ length (now mem) ≡ 65536 ⌝ }
     requires { ⌜ isAsleep (cpu .halt) ≡ true ⌝ }
-    ensures { λ r. ⌜ Wakes cpu port (now (mem .entry)) (r .halting) (r .cpu) (r .port) (now (mem .exit)) × (length (now (mem .exit)) ≡ 65536) ⌝ }
+    ensures { λ r. ⌜ Wakes cpu port (now (mem .entry)) (r .halting) (r .cpu) (r .port) (now (mem .exit)) ⌝ }
 {
     let p = memory::idle(port, mem);
     let interrupt = peek_next_interrupt(mem);
@@ -71,7 +71,7 @@ fn rest(cpu: Cpu, port: Port, mem: &mut [u8]) -> Woken
 // 3. A halt that goes on, one that ends, or none.
 pub fn wake(cpu: Cpu, port: Port, mem: &mut [u8]) -> Woken
     requires { ⌜ length (now mem) ≡ 65536 ⌝ }
-    ensures { λ r. ⌜ Wakes cpu port (now (mem .entry)) (r .halting) (r .cpu) (r .port) (now (mem .exit)) × (length (now (mem .exit)) ≡ 65536) ⌝ }
+    ensures { λ r. ⌜ Wakes cpu port (now (mem .entry)) (r .halting) (r .cpu) (r .port) (now (mem .exit)) ⌝ }
 {
     let halt = cpu.halt;
     let asleep = is_asleep(halt);

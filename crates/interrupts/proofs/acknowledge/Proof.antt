@@ -4,7 +4,7 @@ use Rattle.interrupts.proofs.acknowledge.Statement.{statement}
 use Rattle.interrupts.proofs.acknowledge.Tie as tie
 
 returns : tie.Need-returns
-returns c = (simp (c .res .ensures), search needs)
+returns c = record { left = simp (c .res .ensures); whole = search needs }
 
 pub acknowledge-spec : {M : Type 1} → statement M
 acknowledge-spec = tie.close (tie.spec (λ c. search needs) (λ c κs. search needs) (λ c. search needs) (λ c. search needs) returns)

@@ -1,12 +1,11 @@
 -- Shows what peeking sees.
 use borrow.Author.Needs.{needs}
-use Rattle.definition.specs.Bus.{pending}
+use Rattle.memory.proofs.Accesses.{has-peeked}
 use Rattle.interrupts.proofs.peek_next_interrupt.Statement.{statement}
 use Rattle.interrupts.proofs.peek_next_interrupt.Tie as tie
 
 returns : tie.Need-returns
-unfolding pending
-returns c = search needs
+returns c = let look = c .before .before .lowest-pending .ensures in has-peeked _ _ _ (look .seen) (look .same) (look .whole)
 
 pub peek-next-interrupt-spec : {M : Type 1} → statement M
-peek-next-interrupt-spec = tie.close (tie.spec (λ c. search needs) (λ c. search needs) (λ c κs. search needs) returns)
+peek-next-interrupt-spec = tie.close (tie.spec (λ c κs. search needs) (λ c. search needs) returns)

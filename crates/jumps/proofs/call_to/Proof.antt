@@ -6,10 +6,10 @@ use Rattle.jumps.proofs.call_to.Statement.{statement}
 use Rattle.jumps.proofs.call_to.Tie as tie
 
 same-length : tie.Need-same-length
-same-length c = c .before .before .before .before .before .before .before .stack-push .ensures .1 ∙ sym (c .before .before .before .before .before .before .before .before .before .before .before .before .before .before .before .pre)
+same-length c = c .before .before .before .before .before .before .before .stack-push .ensures .whole ∙ sym (c .before .before .before .before .before .before .before .before .before .before .before .before .before .before .before .pre)
 
 returns : tie.Need-returns
-returns c = (called _ _ _ _ _ _ _ _ _ _ _ (c .before .before .before .before .before .before .before .before .before .before .before .before .idle .ensures .0) (c .before .before .before .before .before .before .before .before .before .before .before .before .idle .ensures .1) (c .before .before .before .before .before .before .before .stack-push .ensures .0) (c .before .with-registers .ensures) (c .plain .ensures), c .before .before .before .before .before .before .before .stack-push .ensures .1)
+returns c = record { there = called _ _ _ _ _ _ _ _ _ _ _ (c .before .before .before .before .before .before .before .before .before .before .before .before .idle .ensures) (c .before .before .before .before .before .before .before .stack-push .ensures .there) (c .before .with-registers .ensures) (c .plain .ensures); whole = c .before .before .before .before .before .before .before .stack-push .ensures .whole }
 
 pub call-to-spec : {M : Type 1} → statement M
 call-to-spec = tie.close (tie.spec (λ c κs. search needs) (λ c κs. search needs) (λ c κs. search needs) (λ c κs. search needs) same-length returns)

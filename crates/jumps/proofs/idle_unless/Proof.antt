@@ -1,14 +1,13 @@
 -- Shows the wait of a return that is not sure.
 use borrow.Author.Needs.{needs}
-use mathlib.Core.Path.{refl}
 use Rattle.jumps.proofs.idle_unless.Statement.{statement}
 use Rattle.jumps.proofs.idle_unless.Tie as tie
 
 sure : tie.Need-returns
-sure c = (simp (c .if1 .taken), refl, c .before .before .pre)
+sure c = record { there = λ rest. simp (c .if1 .taken); whole = c .before .before .pre }
 
 waiting : tie.Need-returns-2
-waiting c = (simp (c .before .before .idle .ensures .0, c .before .before .before .before .if1 .left), c .before .before .idle .ensures .1, c .before .before .idle .ensures .2)
+waiting c = rw (c .before .before .before .before .if1 .left) (c .before .before .idle .ensures)
 
 pub idle-unless-spec : {M : Type 1} → statement M
 idle-unless-spec = tie.close (tie.spec (λ c κs. search needs) sure (λ c. search needs) waiting)

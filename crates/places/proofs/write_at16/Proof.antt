@@ -9,7 +9,7 @@ use Rattle.places.proofs.write_at16.Tie as tie
 
 returns : tie.Need-returns
 unfolding writeOperand
-returns c = (after _ _ _ _ _ _ _ _ _ imm16 (λ a. store Operand a _) _ _ (c .before .before .before .before .before .before .before .before .fetch16 .ensures .0) (c .before .before .store .ensures .0), c .before .before .store .ensures .1)
+returns c = record { there = after _ _ _ _ _ _ _ _ _ imm16 (λ a. store Operand a _) _ _ (c .before .before .before .before .before .before .before .before .fetch16 .ensures .there) (c .before .before .store .ensures .there); whole = c .before .before .store .ensures .whole }
 
 pub write-at16-spec : {M : Type 1} → statement M
 write-at16-spec = tie.close (tie.spec (λ c κs. search needs) (λ c. search needs) (λ c κs. search needs) (λ c. search needs) returns)

@@ -8,8 +8,8 @@ use Rattle.places.proofs.write_high.Statement.{statement}
 use Rattle.places.proofs.write_high.Tie as tie
 
 returns : tie.Need-returns
-unfolding writeOperand
-returns c = (after _ _ _ _ _ _ _ _ _ imm8 (λ n. store Operand (high n) _) _ _ (c .before .before .before .before .before .before .before .before .before .fetch-next-pc .ensures .0) (stored _ _ _ _ _ _ _ _ _ (c .before .before .before .before .high .ensures) (c .before .before .store .ensures .0)), c .before .before .store .ensures .1)
+unfolding imm8 writeOperand
+returns c = record { there = after _ _ _ _ _ _ _ _ _ imm8 (λ n. store Operand (high n) _) _ _ (c .before .before .before .before .before .before .before .before .before .fetch-next-pc .ensures .there) (stored _ _ _ _ _ _ _ _ _ (c .before .before .before .before .high .ensures) (c .before .before .store .ensures .there)); whole = c .before .before .store .ensures .whole }
 
 pub write-high-spec : {M : Type 1} → statement M
 write-high-spec = tie.close (tie.spec (λ c κs. search needs) (λ c κs. search needs) (λ c. search needs) (λ c κs. search needs) (λ c. search needs) returns)

@@ -7,7 +7,7 @@ use Rattle.places.proofs.write_word_at16.Tie as tie
 
 returns : tie.Need-returns
 unfolding writeOperand
-returns c = (word-at-pc _ _ _ _ _ _ _ _ _ _ _ _ _ _ (c .before .before .before .before .before .before .before .before .before .before .before .before .before .fetch16 .ensures .0) (c .before .before .before .before .before .before .before .write .ensures .0) (c .before .before .before .before .before .before .before .write .ensures .1) (c .before .before .before .before .wrapping-add .ensures) (c .before .before .store .ensures .0), c .before .before .store .ensures .1)
+returns c = record { there = word-at-pc _ _ _ _ _ _ _ _ _ _ _ _ _ _ (c .before .before .before .before .before .before .before .before .before .before .before .before .before .fetch16 .ensures .there) (c .before .before .before .before .before .before .before .write .ensures) (c .before .before .before .before .wrapping-add .ensures) (c .before .before .store .ensures .there); whole = c .before .before .store .ensures .whole }
 
 pub write-word-at16-spec : {M : Type 1} → statement M
 write-word-at16-spec = tie.close (tie.spec (λ c κs. search needs) (λ c. search needs) (λ c κs. search needs) (λ c κs. search needs) (λ c. search needs) (λ c κs. search needs) (λ c. search needs) returns)

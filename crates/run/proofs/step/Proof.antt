@@ -5,6 +5,7 @@ use mathlib.Core.List.{List}
 use Prim.Native.Nat.{ℕ}
 use Rattle.definition.specs.Run.{RunAnswer}
 use Rattle.run.specs.Answers.{outcomeOf}
+use Rattle.memory.specs.World.{behind}
 use Rattle.run.proofs.Admitted.{once}
 use Rattle.run.proofs.step.Statement.{statement}
 use Rattle.run.proofs.step.Tie as tie
@@ -12,12 +13,12 @@ use Rattle.run.proofs.step.Tie as tie
 returns : tie.Need-returns
 returns c =
     let e = c .before .before .before .before .before .run .ensures in
-    let it = once (c .before .before .before .before .before .before .before .before .args .cpu) (c .before .before .before .before .before .before .before .before .args .mem .now) in
+    let it = once behind (c .before .before .before .before .before .before .before .before .args .cpu) (c .before .before .before .before .before .before .before .before .args .mem .now) in
     record {
-      outcome = c .outcome-of .ensures ∙ ap (λ (r : RunAnswer (List ℕ)). outcomeOf (r .last)) e ∙ ap outcomeOf (it .0);
-      cpu = ap (λ (r : RunAnswer (List ℕ)). r .cpu) e ∙ it .1;
-      memory = ap (λ (r : RunAnswer (List ℕ)). r .memory) e ∙ it .2;
-      cycles = ap (λ (r : RunAnswer (List ℕ)). r .cycles) e ∙ it .3;
+      outcome = c .outcome-of .ensures ∙ ap (λ (r : RunAnswer (List ℕ)). outcomeOf (r .last)) e ∙ ap outcomeOf (it .last);
+      cpu = ap (λ (r : RunAnswer (List ℕ)). r .cpu) e ∙ it .cpu;
+      memory = ap (λ (r : RunAnswer (List ℕ)). r .memory) e ∙ it .memory;
+      cycles = ap (λ (r : RunAnswer (List ℕ)). r .cycles) e ∙ it .cycles;
     }
 
 pub step-spec : {M : Type 1} → statement M

@@ -9,7 +9,7 @@ use Rattle.sources.proofs.read_at16.Tie as tie
 
 returns : tie.Need-returns
 unfolding readOperand
-returns c = (after _ _ _ _ _ _ _ _ _ imm16 (load Operand) _ _ (c .before .before .before .before .before .before .before .before .fetch16 .ensures .0) (c .before .before .load .ensures .0), c .before .before .load .ensures .1)
+returns c = record { there = after _ _ _ _ _ _ _ _ _ imm16 (load Operand) _ _ (c .before .before .before .before .before .before .before .before .fetch16 .ensures .there) (c .before .before .load .ensures .there); whole = c .before .before .load .ensures .whole }
 
 pub read-at16-spec : {M : Type 1} → statement M
 read-at16-spec = tie.close (tie.spec (λ c κs. search needs) (λ c κs. search needs) (λ c. search needs) returns)

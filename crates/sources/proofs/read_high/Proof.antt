@@ -8,8 +8,8 @@ use Rattle.sources.proofs.read_high.Statement.{statement}
 use Rattle.sources.proofs.read_high.Tie as tie
 
 returns : tie.Need-returns
-unfolding readOperand
-returns c = (after _ _ _ _ _ _ _ _ _ imm8 (λ n. load Operand (high n)) _ _ (c .before .before .before .before .before .before .before .before .before .fetch-next-pc .ensures .0) (along _ _ _ _ _ _ (load Operand) _ _ _ (c .before .before .before .before .high .ensures) (c .before .before .load .ensures .0)), c .before .before .load .ensures .1)
+unfolding imm8 readOperand
+returns c = record { there = after _ _ _ _ _ _ _ _ _ imm8 (λ n. load Operand (high n)) _ _ (c .before .before .before .before .before .before .before .before .before .fetch-next-pc .ensures .there) (along _ _ _ _ _ _ (load Operand) _ _ _ (c .before .before .before .before .high .ensures) (c .before .before .load .ensures .there)); whole = c .before .before .load .ensures .whole }
 
 pub read-high-spec : {M : Type 1} → statement M
 read-high-spec = tie.close (tie.spec (λ c κs. search needs) (λ c κs. search needs) (λ c κs. search needs) (λ c. search needs) returns)

@@ -1,9 +1,11 @@
 -- Shows the byte at PC, as a word.
 use borrow.Author.Needs.{needs}
+use Rattle.definition.specs.Execution.{imm8}
 use Rattle.sources.proofs.read_imm8.Statement.{statement}
 use Rattle.sources.proofs.read_imm8.Tie as tie
 
 returns : tie.Need-returns
+unfolding imm8
 returns c = c .before .before .before .before .before .fetch-next-pc .ensures
 
 pub read-imm8-spec : {M : Type 1} → statement M

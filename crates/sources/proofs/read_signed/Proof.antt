@@ -9,8 +9,8 @@ use Rattle.sources.proofs.read_signed.Statement.{statement}
 use Rattle.sources.proofs.read_signed.Tie as tie
 
 returns : tie.Need-returns
-unfolding readOperand
-returns c = (after _ _ _ _ _ _ _ _ _ imm8 (λ e. give (signed e)) _ _ (c .before .before .before .before .before .fetch-next-pc .ensures .0) (giving _ _ _ _ _ (c .sign-extended .ensures)), c .before .before .before .before .before .fetch-next-pc .ensures .1)
+unfolding imm8 readOperand
+returns c = record { there = after _ _ _ _ _ _ _ _ _ imm8 (λ e. give (signed e)) _ _ (c .before .before .before .before .before .fetch-next-pc .ensures .there) (giving _ _ _ _ _ (c .sign-extended .ensures)); whole = c .before .before .before .before .before .fetch-next-pc .ensures .whole }
 
 pub read-signed-spec : {M : Type 1} → statement M
 read-signed-spec = tie.close (tie.spec (λ c κs. search needs) (λ c κs. search needs) (λ c. search needs) returns)

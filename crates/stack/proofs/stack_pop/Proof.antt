@@ -5,7 +5,7 @@ use Rattle.stack.proofs.stack_pop.Statement.{statement}
 use Rattle.stack.proofs.stack_pop.Tie as tie
 
 returns : tie.Need-returns
-returns c = (popped _ _ _ _ _ _ _ _ _ _ _ _ (c .before .before .before .before .before .before .before .before .before .before .before .read .ensures .0) (c .before .before .before .before .before .before .before .before .before .before .before .read .ensures .1) (c .before .before .before .before .before .before .before .before .before .before .before .read .ensures .2) (c .before .before .before .before .before .before .before .wrapping-add .ensures) (c .before .before .before .before .before .read2 .ensures .0) (c .before .before .before .before .before .read2 .ensures .1) (c .before .before .before .before .before .read2 .ensures .2) (c .before .wrapping-add2 .ensures) (c .pair .ensures), c .before .before .before .before .before .read2 .ensures .3)
+returns c = record { there = popped _ _ _ _ _ _ _ _ _ _ _ _ (c .before .before .before .before .before .before .before .before .before .before .before .read .ensures) (c .before .before .before .before .before .before .before .wrapping-add .ensures) (c .before .before .before .before .before .read2 .ensures) (c .before .wrapping-add2 .ensures) (c .pair .ensures); whole = c .before .before .before .before .before .read2 .ensures .whole }
 
 pub stack-pop-spec : {M : Type 1} → statement M
 stack-pop-spec = tie.close (tie.spec (λ c κs. search needs) (λ c κs. search needs) (λ c κs. search needs) (λ c κs. search needs) (λ c κs. search needs) (λ c. search needs) returns)

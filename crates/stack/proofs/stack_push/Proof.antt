@@ -5,7 +5,7 @@ use Rattle.stack.proofs.stack_push.Statement.{statement}
 use Rattle.stack.proofs.stack_push.Tie as tie
 
 returns : tie.Need-returns
-returns c = (pushed _ _ _ _ _ _ _ _ _ _ (c .before .before .before .before .before .before .before .before .before .wrapping-sub .ensures) (c .before .before .before .before .wrapping-sub2 .ensures) (c .before .before .before .before .before .before .before .write .ensures .0) (c .before .before .before .before .before .before .before .write .ensures .1) (c .before .before .write2 .ensures .0) (c .before .before .write2 .ensures .1), c .before .before .write2 .ensures .2)
+returns c = record { there = pushed _ _ _ _ _ _ _ _ _ _ (c .before .before .before .before .before .before .before .before .before .wrapping-sub .ensures) (c .before .before .before .before .wrapping-sub2 .ensures) (c .before .before .before .before .before .before .before .write .ensures) (c .before .before .write2 .ensures); whole = c .before .before .write2 .ensures .whole }
 
 pub stack-push-spec : {M : Type 1} → statement M
 stack-push-spec = tie.close (tie.spec (λ c κs. search needs) (λ c. search needs) (λ c κs. search needs) (λ c κs. search needs) (λ c. search needs) (λ c κs. search needs) (λ c. search needs) returns)

@@ -5,7 +5,7 @@ use Rattle.accesses.proofs.access.load.Statement.{statement}
 use Rattle.accesses.proofs.access.load.Tie as tie
 
 returns : tie.Need-returns
-returns c = (byte-at _ _ _ _ _ _ _ (c .before .before .before .before .read .ensures .0) (c .before .before .before .before .read .ensures .1) (c .before .before .before .before .read .ensures .2), c .before .before .before .before .read .ensures .3)
+returns c = record { there = byte-at _ _ _ _ _ _ _ _ (c .before .before .before .before .read .ensures); whole = c .before .before .before .before .read .ensures .whole }
 
 pub load-spec : {M : Type 1} → statement M
 load-spec = tie.close (tie.spec (λ c κs. search needs) (λ c. search needs) (λ c. search needs) returns)

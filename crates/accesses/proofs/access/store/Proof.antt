@@ -5,7 +5,7 @@ use Rattle.accesses.proofs.access.store.Statement.{statement}
 use Rattle.accesses.proofs.access.store.Tie as tie
 
 returns : tie.Need-returns
-returns c = (byte-to _ _ _ _ _ _ _ (c .before .before .write .ensures .0) (c .before .before .write .ensures .1), c .before .before .write .ensures .2)
+returns c = record { there = byte-to _ _ _ _ _ _ _ _ (c .before .before .write .ensures); whole = c .before .before .write .ensures .whole }
 
 pub store-spec : {M : Type 1} → statement M
 store-spec = tie.close (tie.spec (λ c κs. search needs) (λ c. search needs) returns)

@@ -5,7 +5,7 @@ use Rattle.accesses.proofs.fetch.fetch_next_pc.Statement.{statement}
 use Rattle.accesses.proofs.fetch.fetch_next_pc.Tie as tie
 
 returns : tie.Need-returns
-returns c = (byte-at-pc _ _ _ _ _ _ _ (c .before .before .before .before .read .ensures .0) (c .before .before .before .before .read .ensures .1) (c .before .before .before .before .read .ensures .2) (c .wrapping-add .ensures), c .before .before .before .before .read .ensures .3)
+returns c = record { there = byte-at-pc _ _ _ _ _ _ _ _ (c .before .before .before .before .read .ensures) (c .wrapping-add .ensures); whole = c .before .before .before .before .read .ensures .whole }
 
 pub fetch-next-pc-spec : {M : Type 1} → statement M
 fetch-next-pc-spec = tie.close (tie.spec (λ c κs. search needs) (λ c κs. search needs) (λ c. search needs) returns)

@@ -8,13 +8,13 @@ read-operand-requires : tie.Need-read-operand-requires
 read-operand-requires c κs = (c .before .before .pre .0, can-read (c .before .before .args .instruction) (c .before .before .pre .1))
 
 compute-requires : tie.Need-compute-requires
-compute-requires c κs = (c .before .before .before .before .before .read-operand .ensures .1, can-compute (c .before .before .before .before .before .before .before .before .args .instruction) (c .before .before .before .before .before .before .before .before .pre .1))
+compute-requires c κs = (c .before .before .before .before .before .read-operand .ensures .whole, can-compute (c .before .before .before .before .before .before .before .before .args .instruction) (c .before .before .before .before .before .before .before .before .pre .1))
 
 write-operand-requires : tie.Need-write-operand-requires
-write-operand-requires c κs = (c .before .before .before .before .before .compute .ensures .1, can-write (c .before .before .before .before .before .before .before .before .before .before .before .before .before .before .args .instruction) (c .before .before .before .before .before .before .before .before .before .before .before .before .before .before .pre .1))
+write-operand-requires c κs = (c .before .before .before .before .before .compute .ensures .whole, can-write (c .before .before .before .before .before .before .before .before .before .before .before .before .before .before .args .instruction) (c .before .before .before .before .before .before .before .before .before .before .before .before .before .before .pre .1))
 
 returns : tie.Need-returns
-returns c = (executed _ _ _ _ _ _ _ _ _ _ _ _ _ _ _ _ (c .before .before .before .before .before .before .before .before .before .before .before .before .before .before .before .before .read-operand .ensures .0) (c .before .before .before .before .before .before .before .before .before .before .compute .ensures .0) (c .before .before .before .before .write-operand .ensures .0), c .before .before .before .before .write-operand .ensures .1)
+returns c = record { there = executed _ _ _ _ _ _ _ _ _ _ _ _ _ _ _ _ (c .before .before .before .before .before .before .before .before .before .before .before .before .before .before .before .before .read-operand .ensures .there) (c .before .before .before .before .before .before .before .before .before .before .compute .ensures .there) (c .before .before .before .before .write-operand .ensures .there); whole = c .before .before .before .before .write-operand .ensures .whole }
 
 pub exec-instruction-spec : {M : Type 1} → statement M
 exec-instruction-spec = tie.close (tie.spec read-operand-requires compute-requires write-operand-requires (λ c. search needs) returns)

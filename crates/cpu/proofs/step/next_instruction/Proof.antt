@@ -5,10 +5,10 @@ use Rattle.cpu.proofs.step.next_instruction.Statement.{statement}
 use Rattle.cpu.proofs.step.next_instruction.Tie as tie
 
 returns : tie.Need-returns
-returns c = (stops _ _ _ _ _ (c .before .before .before .before .if1 .taken) (c .before .before .idle .ensures .0) (c .before .before .idle .ensures .1), c .before .before .idle .ensures .2)
+returns c = record { there = stops _ _ _ _ _ (c .before .before .before .before .if1 .taken) (c .before .before .idle .ensures); whole = c .before .before .idle .ensures .whole }
 
 returns-2 : tie.Need-returns-2
-returns-2 c = (transfers _ _ _ (c .before .before .before .before .before .if1 .left) _ _ (c .before .before .before .before .if2 .taken) (c .before .before .idle2 .ensures .0) (c .before .before .idle2 .ensures .1), c .before .before .idle2 .ensures .2)
+returns-2 c = record { there = transfers _ _ _ (c .before .before .before .before .before .if1 .left) _ _ (c .before .before .before .before .if2 .taken) (c .before .before .idle2 .ensures); whole = c .before .before .idle2 .ensures .whole }
 
 running-requires : tie.Need-running-requires
 running-requires c κs = let pre = c .before .before .before .before .pre in (pre .0, (pre .1 .0, (pre .1 .1, (c .before .before .if1 .left, c .before .if2 .left))))

@@ -9,11 +9,11 @@ use Rattle.cpu.proofs.step.run_one.Statement.{statement}
 use Rattle.cpu.proofs.step.run_one.Tie as tie
 
 exec-instruction-requires : tie.Need-exec-instruction-requires
-exec-instruction-requires c κs = (c .before .before .before .before .before .before .before .fetch-entry .ensures .2, subst (λ (i : Instruction). T (runnable i)) (sym (c .before .from-entry .ensures)) (c .before .before .before .before .before .before .before .fetch-entry .ensures .1))
+exec-instruction-requires c κs = (c .before .before .before .before .before .before .before .fetch-entry .ensures .left .whole, subst (λ (i : Instruction). T (runnable i)) (sym (c .before .from-entry .ensures)) (c .before .before .before .before .before .before .before .fetch-entry .ensures .can-run))
 
 returns : tie.Need-returns
 returns c =
-    (executes _ _ _ _ _ _ _ _ _ _ _ _ _ (c .before .before .before .before .before .before .before .before .before .before .fetch-entry .ensures .0) (c .before .before .before .before .from-entry .ensures) (c .before .before .exec-instruction .ensures .0), c .before .before .exec-instruction .ensures .1)
+    record { there = executes _ _ _ _ _ _ _ _ _ _ _ _ _ (c .before .before .before .before .before .before .before .before .before .before .fetch-entry .ensures .left .there) (c .before .before .before .before .from-entry .ensures) (c .before .before .exec-instruction .ensures .there); whole = c .before .before .exec-instruction .ensures .whole }
 
 pub run-one-spec : {M : Type 1} → statement M
 run-one-spec =

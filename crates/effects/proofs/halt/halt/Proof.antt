@@ -5,13 +5,13 @@ use Rattle.effects.proofs.halt.halt.Statement.{statement}
 use Rattle.effects.proofs.halt.halt.Tie as tie
 
 enabled : tie.Need-returns
-enabled c = (halted _ _ _ _ _ (c .before .before .if1 .taken) (c .before .with-halt .ensures) (c .plain .ensures), c .before .before .before .before .pre)
+enabled c = record { there = halted _ _ _ _ _ (c .before .before .if1 .taken) (c .before .with-halt .ensures) (c .plain .ensures); whole = c .before .before .before .before .pre }
 
 pending : tie.Need-returns-2
-pending c = (halted-off _ _ _ _ _ _ _ _ (c .before .before .before .before .before .before .before .if1 .left) (c .before .before .before .before .before .peek-next-interrupt .ensures .0) (c .before .before .before .before .before .peek-next-interrupt .ensures .1) (c .before .before .if2 .taken) (c .before .with-halt2 .ensures) (c .plain2 .ensures), c .before .before .before .before .before .peek-next-interrupt .ensures .2)
+pending c = record { there = halted-off _ _ _ _ _ _ _ _ (c .before .before .before .before .before .before .before .if1 .left) (c .before .before .before .before .before .peek-next-interrupt .ensures) (c .before .before .if2 .taken) (c .before .with-halt2 .ensures) (c .plain2 .ensures); whole = c .before .before .before .before .before .peek-next-interrupt .ensures .whole }
 
 none-pending : tie.Need-returns-3
-none-pending c = (halted-off _ _ _ _ _ _ _ _ (c .before .before .before .before .before .before .before .if1 .left) (c .before .before .before .before .before .peek-next-interrupt .ensures .0) (c .before .before .before .before .before .peek-next-interrupt .ensures .1) (c .before .before .if2 .left) (c .before .with-halt3 .ensures) (c .plain3 .ensures), c .before .before .before .before .before .peek-next-interrupt .ensures .2)
+none-pending c = record { there = halted-off _ _ _ _ _ _ _ _ (c .before .before .before .before .before .before .before .if1 .left) (c .before .before .before .before .before .peek-next-interrupt .ensures) (c .before .before .if2 .left) (c .before .with-halt3 .ensures) (c .plain3 .ensures); whole = c .before .before .before .before .before .peek-next-interrupt .ensures .whole }
 
 pub halt-spec : {M : Type 1} → statement M
 halt-spec = tie.close (tie.spec (λ c κs. search needs) (λ c κs. search needs) (λ c κs. search needs) (λ c κs. search needs) (λ c κs. search needs) (λ c κs. search needs) (λ c κs. search needs) enabled (λ c. search needs) pending (λ c. search needs) none-pending)

@@ -5,7 +5,7 @@ use Rattle.effects.proofs.words.add_sp.Statement.{statement}
 use Rattle.effects.proofs.words.add_sp.Tie as tie
 
 returns : tie.Need-returns
-returns c = (offset-added _ _ _ _ _ _ _ _ _ (c .before .before .before .before .before .before .before .idle .ensures .0) (c .before .before .before .before .before .before .before .idle .ensures .1) (c .before .before .before .idle2 .ensures .0) (c .before .before .before .idle2 .ensures .1) (c .add-offset .ensures), c .before .before .before .idle2 .ensures .2)
+returns c = record { there = offset-added _ _ _ _ _ _ _ _ _ (c .before .before .before .before .before .before .before .idle .ensures) (c .before .before .before .idle2 .ensures) (c .add-offset .ensures); whole = c .before .before .before .idle2 .ensures .whole }
 
 pub add-sp-spec : {M : Type 1} → statement M
 add-sp-spec = tie.close (tie.spec (λ c κs. search needs) (λ c κs. search needs) (λ c κs. search needs) (λ c. search needs) returns)

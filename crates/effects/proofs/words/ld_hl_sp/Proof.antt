@@ -5,7 +5,7 @@ use Rattle.effects.proofs.words.ld_hl_sp.Statement.{statement}
 use Rattle.effects.proofs.words.ld_hl_sp.Tie as tie
 
 returns : tie.Need-returns
-returns c = (offset-loaded _ _ _ _ _ _ _ (c .before .before .before .idle .ensures .0) (c .before .before .before .idle .ensures .1) (c .add-offset .ensures), c .before .before .before .idle .ensures .2)
+returns c = record { there = offset-loaded _ _ _ _ _ _ _ (c .before .before .before .idle .ensures) (c .add-offset .ensures); whole = c .before .before .before .idle .ensures .whole }
 
 pub ld-hl-sp-spec : {M : Type 1} → statement M
 ld-hl-sp-spec = tie.close (tie.spec (λ c κs. search needs) (λ c κs. search needs) (λ c. search needs) returns)

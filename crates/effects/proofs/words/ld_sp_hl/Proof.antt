@@ -5,7 +5,7 @@ use Rattle.effects.proofs.words.ld_sp_hl.Statement.{statement}
 use Rattle.effects.proofs.words.ld_sp_hl.Tie as tie
 
 returns : tie.Need-returns
-returns c = (loaded-sp _ _ _ _ _ _ _ _ (c .before .before .before .before .before .before .idle .ensures .0) (c .before .before .before .before .before .before .idle .ensures .1) (c .before .before .reg-hl-read .ensures) (c .before .with-registers .ensures) (c .plain .ensures), c .before .before .before .before .before .before .idle .ensures .2)
+returns c = record { there = loaded-sp _ _ _ _ _ _ _ _ (c .before .before .before .before .before .before .idle .ensures) (c .before .before .reg-hl-read .ensures) (c .before .with-registers .ensures) (c .plain .ensures); whole = c .before .before .before .before .before .before .idle .ensures .whole }
 
 pub ld-sp-hl-spec : {M : Type 1} → statement M
 ld-sp-hl-spec = tie.close (tie.spec (λ c κs. search needs) (λ c κs. search needs) (λ c κs. search needs) (λ c κs. search needs) (λ c. search needs) returns)

@@ -5,7 +5,7 @@ use Rattle.effects.proofs.words.push_word.Statement.{statement}
 use Rattle.effects.proofs.words.push_word.Tie as tie
 
 returns : tie.Need-returns
-returns c = (word-pushed _ _ _ _ _ _ _ _ _ _ (c .before .before .before .before .before .before .before .before .before .idle .ensures .0) (c .before .before .before .before .before .before .before .before .before .idle .ensures .1) (c .before .before .before .before .before .stack-push .ensures .0) (c .plain .ensures), c .before .before .before .before .before .stack-push .ensures .1)
+returns c = record { there = word-pushed _ _ _ _ _ _ _ _ _ _ (c .before .before .before .before .before .before .before .before .before .idle .ensures) (c .before .before .before .before .before .stack-push .ensures .there) (c .plain .ensures); whole = c .before .before .before .before .before .stack-push .ensures .whole }
 
 pub push-word-spec : {M : Type 1} → statement M
 push-word-spec = tie.close (tie.spec (λ c κs. search needs) (λ c κs. search needs) (λ c κs. search needs) (λ c. search needs) returns)

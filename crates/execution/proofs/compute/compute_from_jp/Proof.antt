@@ -7,55 +7,55 @@ use Rattle.execution.proofs.compute.compute_from_jp.Statement.{statemen
 use Rattle.execution.proofs.compute.compute_from_jp.Tie as tie
 
 at-jp : tie.Need-returns
-at-jp c = (jumps _ _ _ _ _ _ _ _ _ _ _ (c .before .before .before .before .before .opcode .given .1) (c .before .before .jp .ensures .0), c .before .before .jp .ensures .1)
+at-jp c = record { there = jumps _ _ _ _ _ _ _ _ _ _ _ (c .before .before .before .before .before .opcode .given .1) (c .before .before .jp .ensures .there); whole = c .before .before .jp .ensures .whole }
 
 at-jphl : tie.Need-returns-2
-at-jphl c = (jumps-to-hl _ _ _ _ _ _ _ (c .before .enum-told .given .1) (c .jump .ensures), c .before .before .before .before .before .pre .0)
+at-jphl c = record { there = jumps-to-hl _ _ _ _ _ _ _ (c .before .enum-told .given .1) (c .jump .ensures); whole = c .before .before .before .before .before .pre .0 }
 
 at-jr : tie.Need-returns-3
-at-jr c = (jumps-by _ _ _ _ _ _ _ _ _ _ _ (c .before .before .before .before .before .opcode2 .given .1) (c .before .before .jr .ensures .0), c .before .before .jr .ensures .1)
+at-jr c = record { there = jumps-by _ _ _ _ _ _ _ _ _ _ _ (c .before .before .before .before .before .opcode2 .given .1) (c .before .before .jr .ensures .there); whole = c .before .before .jr .ensures .whole }
 
 at-call : tie.Need-returns-4
-at-call c = (calls _ _ _ _ _ _ _ _ _ _ _ (c .before .before .before .before .before .opcode3 .given .1) (c .before .before .call .ensures .0), c .before .before .call .ensures .1)
+at-call c = record { there = calls _ _ _ _ _ _ _ _ _ _ _ (c .before .before .before .before .before .opcode3 .given .1) (c .before .before .call .ensures .there); whole = c .before .before .call .ensures .whole }
 
 at-ret : tie.Need-returns-5
-at-ret c = (returns _ _ _ _ _ _ _ _ _ _ _ (c .before .before .before .before .before .opcode4 .given .1) (c .before .before .ret .ensures .0), c .before .before .ret .ensures .1)
+at-ret c = record { there = returns _ _ _ _ _ _ _ _ _ _ _ (c .before .before .before .before .before .opcode4 .given .1) (c .before .before .ret .ensures .there); whole = c .before .before .ret .ensures .whole }
 
 at-reti : tie.Need-returns-6
-at-reti c = (returns-enabling _ _ _ _ _ _ _ _ _ _ (c .before .before .before .before .enum-told2 .given .1) (c .before .before .reti .ensures .0), c .before .before .reti .ensures .1)
+at-reti c = record { there = returns-enabling _ _ _ _ _ _ _ _ _ _ (c .before .before .before .before .enum-told2 .given .1) (c .before .before .reti .ensures .there); whole = c .before .before .reti .ensures .whole }
 
 at-rst : tie.Need-returns-7
-at-rst c = (restarts _ _ _ _ _ _ _ _ _ _ _ (c .before .before .before .before .before .opcode5 .given .1) (c .before .before .call-to .ensures .0), c .before .before .call-to .ensures .1)
+at-rst c = record { there = restarts _ _ _ _ _ _ _ _ _ _ _ (c .before .before .before .before .before .opcode5 .given .1) (c .before .before .call-to .ensures .there); whole = c .before .before .call-to .ensures .whole }
 
 at-di : tie.Need-returns-8
-at-di c = (disables _ _ _ _ _ _ _ (c .before .enum-told3 .given .1) (c .di .ensures), c .before .before .before .before .before .pre .0)
+at-di c = record { there = disables _ _ _ _ _ _ _ (c .before .enum-told3 .given .1) (c .di .ensures); whole = c .before .before .before .before .before .pre .0 }
 
 at-ei : tie.Need-returns-9
-at-ei c = (enables _ _ _ _ _ _ _ (c .before .enum-told4 .given .1) (c .ei .ensures), c .before .before .before .before .before .pre .0)
+at-ei c = record { there = enables _ _ _ _ _ _ _ (c .before .enum-told4 .given .1) (c .ei .ensures); whole = c .before .before .before .before .before .pre .0 }
 
 at-ccf : tie.Need-returns-10
-at-ccf c = (by-acc _ _ _ _ _ _ _ _ CCF (c .before .before .enum-told5 .given .1) (c .before .ccf .ensures) (c .with-a .ensures), c .before .before .before .before .before .before .pre .0)
+at-ccf c = record { there = by-acc _ _ _ _ _ _ _ _ CCF (c .before .before .enum-told5 .given .1) (c .before .ccf .ensures) (c .with-a .ensures); whole = c .before .before .before .before .before .before .pre .0 }
 
 at-scf : tie.Need-returns-11
-at-scf c = (by-acc _ _ _ _ _ _ _ _ SCF (c .before .before .enum-told6 .given .1) (c .before .scf .ensures) (c .with-a2 .ensures), c .before .before .before .before .before .before .pre .0)
+at-scf c = record { there = by-acc _ _ _ _ _ _ _ _ SCF (c .before .before .enum-told6 .given .1) (c .before .scf .ensures) (c .with-a2 .ensures); whole = c .before .before .before .before .before .before .pre .0 }
 
 at-daa : tie.Need-returns-12
-at-daa c = (by-acc _ _ _ _ _ _ _ _ DAA (c .before .before .enum-told7 .given .1) (c .before .daa .ensures) (c .with-a3 .ensures), c .before .before .before .before .before .before .pre .0)
+at-daa c = record { there = by-acc _ _ _ _ _ _ _ _ DAA (c .before .before .enum-told7 .given .1) (c .before .daa .ensures) (c .with-a3 .ensures); whole = c .before .before .before .before .before .before .pre .0 }
 
 at-cpl : tie.Need-returns-13
-at-cpl c = (by-acc _ _ _ _ _ _ _ _ CPL (c .before .before .enum-told8 .given .1) (c .before .cpl .ensures) (c .with-a4 .ensures), c .before .before .before .before .before .before .pre .0)
+at-cpl c = record { there = by-acc _ _ _ _ _ _ _ _ CPL (c .before .before .enum-told8 .given .1) (c .before .cpl .ensures) (c .with-a4 .ensures); whole = c .before .before .before .before .before .before .pre .0 }
 
 at-rlca : tie.Need-returns-14
-at-rlca c = (by-acc _ _ _ _ _ _ _ _ RLCA (c .before .before .enum-told9 .given .1) (c .before .rlca .ensures) (c .with-a5 .ensures), c .before .before .before .before .before .before .pre .0)
+at-rlca c = record { there = by-acc _ _ _ _ _ _ _ _ RLCA (c .before .before .enum-told9 .given .1) (c .before .rlca .ensures) (c .with-a5 .ensures); whole = c .before .before .before .before .before .before .pre .0 }
 
 at-rla : tie.Need-returns-15
-at-rla c = (by-acc _ _ _ _ _ _ _ _ RLA (c .before .before .enum-told10 .given .1) (c .before .rla .ensures) (c .with-a6 .ensures), c .before .before .before .before .before .before .pre .0)
+at-rla c = record { there = by-acc _ _ _ _ _ _ _ _ RLA (c .before .before .enum-told10 .given .1) (c .before .rla .ensures) (c .with-a6 .ensures); whole = c .before .before .before .before .before .before .pre .0 }
 
 at-rrca : tie.Need-returns-16
-at-rrca c = (by-acc _ _ _ _ _ _ _ _ RRCA (c .before .before .enum-told11 .given .1) (c .before .rrca .ensures) (c .with-a7 .ensures), c .before .before .before .before .before .before .pre .0)
+at-rrca c = record { there = by-acc _ _ _ _ _ _ _ _ RRCA (c .before .before .enum-told11 .given .1) (c .before .rrca .ensures) (c .with-a7 .ensures); whole = c .before .before .before .before .before .before .pre .0 }
 
 at-rra : tie.Need-returns-17
-at-rra c = (by-acc _ _ _ _ _ _ _ _ RRA (c .before .before .enum-told12 .given .1) (c .before .rra .ensures) (c .with-a8 .ensures), c .before .before .before .before .before .before .pre .0)
+at-rra c = record { there = by-acc _ _ _ _ _ _ _ _ RRA (c .before .before .enum-told12 .given .1) (c .before .rra .ensures) (c .with-a8 .ensures); whole = c .before .before .before .before .before .before .pre .0 }
 
 rest-requires : tie.Need-compute-from-rlc-requires
 rest-requires c κs = let pre = c .before .before .before .before .pre in (pre .0, (pre .1 .0, third (c .before .before .before .before .args .opcode) (pre .1 .1) (c .before .match .keys18)))

@@ -1,5 +1,6 @@
 -- Shows points 5 and 6: the latch, one byte or two, and the entry that they stand for. That registers and bytes are bytes is what their types tell.
 use borrow.Author.Needs.{needs}
+use mathlib.Core.Path.{sym, _∙_}
 use native.Mathlib.Omega.{arith}
 use Rattle.instruction.specs.Entry.{Plain, Prefixed}
 use Rattle.fetching.proofs.Fetching.{fetches-plain, fetches-prefixed}
@@ -11,23 +12,22 @@ unfolding Prefixed
 returns c =
     let first = c .before .before .before .before .before .before .before .before .before .before .before .before .before .before .before .fetch-next-pc in
     let second = c .before .before .before .before .before .before .fetch-next-pc2 in
-    let it =
-    fetches-prefixed _ _ _ _ _ _ _ _ (c .before .before .before .before .before .before .before .before .before .before .before .before .before .before .before .before .before .before .before .enable .ensures) (first .ensures .0) _ _ (c .before .before .before .before .before .before .before .before .before .before .unbug .ensures) _ _ _ _ (c .before .before .before .before .before .before .before .before .if1 .taken) (second .ensures .0)
-    (omega (arith, second .ok)) (c .before .before .before .before .before .before .before .before .before .before .before .before .before .before .before .before .before .before .before .before .before .pre .1 .1 _ (omega (arith, second .ok))) (λ i. omega (arith, c .before .before .before .before .slice-known3 .given i)) (omega (arith, second .ok)) in
-    (it .0, it .1, second .ensures .1)
+    fetches-prefixed _ _ _ _ _ _ _ _ (c .before .before .before .before .before .before .before .before .before .before .before .before .before .before .before .before .before .before .before .enable .ensures) (first .ensures .there) _ _ (c .before .before .before .before .before .before .before .before .before .before .unbug .ensures) _ _ _ _ (c .before .before .before .before .before .before .before .before .if1 .taken) (second .ensures .there)
+    (omega (arith, second .ok)) (c .before .before .before .before .before .before .before .before .before .before .before .before .before .before .before .before .before .before .before .before .before .pre .1 .1 _ (omega (arith, second .ok))) (λ i. omega (arith, c .before .before .before .before .slice-known3 .given i)) (omega (arith, second .ok)) (second .ensures .whole)
 
 returns-2 : tie.Need-returns-2
 unfolding Plain
 returns-2 c =
     let first = c .before .before .before .before .before .before .before .before .before .fetch-next-pc in
-    let it =
-    fetches-plain _ _ _ _ _ _ _ _ (c .before .before .before .before .before .before .before .before .before .before .before .before .before .enable .ensures) (first .ensures .0) _ _ (c .before .before .before .before .unbug .ensures) (omega (arith, first .ok))
-    (c .before .before .if1 .left) (c .before .before .before .before .before .before .before .before .before .before .before .before .before .before .before .pre .1 .0 _ (omega (arith, first .ok))) (λ i. omega (arith, c .before .before .before .before .before .before .before .slice-known2 .given i)) (omega (arith, c .before .before .before .before .unbug .ok)) in
-    (it .0, it .1, first .ensures .1)
+    fetches-plain _ _ _ _ _ _ _ _ (c .before .before .before .before .before .before .before .before .before .before .before .before .before .enable .ensures) (first .ensures .there) _ _ (c .before .before .before .before .unbug .ensures) (omega (arith, first .ok))
+    (c .before .before .if1 .left) (c .before .before .before .before .before .before .before .before .before .before .before .before .before .before .before .pre .1 .0 _ (omega (arith, first .ok))) (λ i. omega (arith, c .before .before .before .before .before .before .before .slice-known2 .given i)) (omega (arith, c .before .before .before .before .unbug .ok)) (first .ensures .whole)
+
+same-length : tie.Need-same-length
+same-length c = c .before .before .before .before .before .before .fetch-next-pc2 .ensures .whole ∙ sym (c .before .before .before .before .before .before .before .before .before .before .before .before .before .before .before .before .before .before .before .before .before .pre .0)
 
 pub fetch-entry-spec : {M : Type 1} → statement M
 fetch-entry-spec =
     tie.close
     (tie.spec
-    (λ c κs. search needs) (λ c κs. search needs) (λ c κs. search needs) (λ c κs. search needs) (λ c. search needs) (λ c. search needs) (λ c. search needs) (λ c. search needs) returns
+    (λ c κs. search needs) (λ c κs. search needs) (λ c κs. search needs) (λ c κs. search needs) (λ c. search needs) (λ c. search needs) (λ c. search needs) same-length returns
     (λ c. search needs) (λ c. search needs) (λ c. search needs) (λ c. search needs) returns-2)

@@ -6,7 +6,7 @@ use Rattle.stages.proofs.dispatch.dispatch.Statement.{statement}
 use Rattle.stages.proofs.dispatch.dispatch.Tie as tie
 
 same-length : tie.Need-same-length
-same-length c = c .before .before .before .before .idle3 .ensures .2 ∙ sym (c .before .before .before .before .before .before .before .before .before .before .before .before .before .before .before .before .before .before .before .before .before .before .before .before .before .before .before .before .before .before .before .pre)
+same-length c = c .before .before .before .before .idle3 .ensures .whole ∙ sym (c .before .before .before .before .before .before .before .before .before .before .before .before .before .before .before .before .before .before .before .before .before .before .before .before .before .before .before .before .before .before .before .pre)
 
 returns : tie.Need-returns
 returns c =
@@ -14,12 +14,13 @@ returns c =
     let write = c .before .before .before .before .before .before .before .before .before .before .before .before .before .before .before .before .write in
     let first = c .before .before .before .before .before .before .before .before .before .before .before .before .idle in
     let second = c .before .before .before .before .before .before .before .before .idle2 in
-    let third = c .before .before .before .before .idle3 in (
-      dispatches (c .before .before .before .before .before .before .before .before .before .before .before .before .before .before .before .before .before .before .before .before .before .before .before .before .before .before .before .before .before .before .before .args .cpu) _ _ _ _ _ _ _ _ _ _ _ _ _ _ _ _ _ (c .before .before .before .before .before .before .before .before .before .before .before .before .before .before .before .before .before .before .before .before .before .before .before .before .before .before .wrapping-sub .ensures) (take .ensures .0) (take .ensures .1) (take .ensures .2) (c .before .before .before .before .before .before .before .before .before .before .before .before .before .before .before .before .before .before .before .wrapping-sub2 .ensures)
-          (write .ensures .0) (write .ensures .1) (first .ensures .0) (first .ensures .1) (second .ensures .0) (second .ensures .1) (third .ensures .0) (third .ensures .1)
-          (c .before .vector .ensures) (c .running .ensures),
-      third .ensures .2,
-    )
+    let third = c .before .before .before .before .idle3 in
+    record {
+      there = dispatches (c .before .before .before .before .before .before .before .before .before .before .before .before .before .before .before .before .before .before .before .before .before .before .before .before .before .before .before .before .before .before .before .args .cpu) _ _ _ _ _ _ _ _ _ _ _ _ _ _ _ _ _ (c .before .before .before .before .before .before .before .before .before .before .before .before .before .before .before .before .before .before .before .before .before .before .before .before .before .before .wrapping-sub .ensures) (take .ensures) (c .before .before .before .before .before .before .before .before .before .before .before .before .before .before .before .before .before .before .before .wrapping-sub2 .ensures)
+          (write .ensures) (first .ensures) (second .ensures) (third .ensures)
+          (c .before .vector .ensures) (c .running .ensures);
+      whole = third .ensures .whole;
+    }
 
 pub dispatch-spec : {M : Type 1} → statement M
 dispatch-spec =

@@ -10,7 +10,7 @@ returns c =
     let start = c .before .before .before .before .before .before .before .before .before .before .before .before in
     let idle = c .before .before .before .before .before .before .before .before .before .idle in
     let peek = c .before .before .before .before .before .peek-next-interrupt in
-    (woken-dmg (start .args .cpu) _ _ _ refl _ _ _ _ (start .pre .1) (idle .ensures .0) (idle .ensures .1) (peek .ensures .0) (peek .ensures .1) _ (c .before .before .if1 .taken) (c .before .with-halt .ensures) (c .if2 .taken), peek .ensures .2)
+    record { there = woken-dmg (start .args .cpu) _ _ _ refl _ _ _ _ (start .pre .1) (idle .ensures) (peek .ensures) _ (c .before .before .if1 .taken) (c .before .with-halt .ensures) (c .if2 .taken); whole = peek .ensures .whole }
 
 returns-2 : tie.Need-returns-2
 returns-2 c =
@@ -18,14 +18,14 @@ returns-2 c =
     let idle = c .before .before .before .before .before .before .before .before .before .before .before .before .before .idle in
     let peek = c .before .before .before .before .before .before .before .before .before .peek-next-interrupt in
     let more = c .before .before .idle2 in
-    (woken-cgb (start .args .cpu) _ _ _ refl _ _ _ _ (start .pre .1) (idle .ensures .0) (idle .ensures .1) (peek .ensures .0) (peek .ensures .1) _ (c .before .before .before .before .before .before .if1 .taken) (c .before .before .before .before .before .with-halt .ensures) _ _ (c .before .before .before .before .if2 .left) (more .ensures .0) (more .ensures .1), more .ensures .2)
+    record { there = woken-cgb (start .args .cpu) _ _ _ refl _ _ _ _ (start .pre .1) (idle .ensures) (peek .ensures) _ (c .before .before .before .before .before .before .if1 .taken) (c .before .before .before .before .before .with-halt .ensures) _ _ (c .before .before .before .before .if2 .left) (more .ensures); whole = more .ensures .whole }
 
 returns-3 : tie.Need-returns-3
 returns-3 c =
     let start = c .before .before .before .before .before .before .before .before .before .before in
     let idle = c .before .before .before .before .before .before .before .idle in
     let peek = c .before .before .before .peek-next-interrupt in
-    (still-asleep _ _ _ _ refl _ _ _ _ (start .pre .1) (idle .ensures .0) (idle .ensures .1) (peek .ensures .0) (peek .ensures .1) (c .if1 .left), peek .ensures .2)
+    record { there = still-asleep _ _ _ _ refl _ _ _ _ (start .pre .1) (idle .ensures) (peek .ensures) (c .if1 .left); whole = peek .ensures .whole }
 
 pub rest-spec : {M : Type 1} → statement M
 rest-spec =

@@ -12,7 +12,7 @@ returns : tie.Need-returns
 returns c = c .before .before .rest .ensures
 
 returns-2 : tie.Need-returns-2
-returns-2 c = (not-asleep _ _ _ _ (c .before .is-asleep .ensures) (c .if1 .left), c .before .before .before .pre)
+returns-2 c = record { there = not-asleep _ _ _ _ (c .before .is-asleep .ensures) (c .if1 .left); whole = c .before .before .before .pre }
 
 pub wake-spec : {M : Type 1} → statement M
 wake-spec = tie.close (tie.spec (λ c κs. search needs) rest-requires (λ c. search needs) returns returns-2)

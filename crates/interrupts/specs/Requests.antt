@@ -1,0 +1,24 @@
+-- The bytes at FF0F and FFFF, for this crate alone: above it a peek and the push that takes are what the bus says of them.
+use mathlib.Core.Path.{_≡_}
+use mathlib.Core.List.{List}
+use Prim.Native.Nat.{ℕ, _%_}
+use lib.ListN.{set, length}
+use Rattle.sm83.specs.Basics.{cleared}
+use Rattle.definition.specs.Bus.{byteAt, pending, taken}
+
+-- an interrupt seen
+pub record Sees (m : List ℕ) (i : ℕ) (m' : List ℕ) : Type 0 where
+  pub seen : i ≡ pending m
+  pub same : m' ≡ m
+  pub whole : length m' ≡ 65536
+
+-- its bit cleared
+pub record Clears (i : ℕ) (m m' : List ℕ) : Type 0 where
+  pub left : m' ≡ set m 0xff0f (cleared (i % 8) (byteAt m 0xff0f))
+  pub whole : length m' ≡ 65536
+
+-- an interrupt seen, and taken if there is one
+pub record SeesAndTakes (m : List ℕ) (i : ℕ) (m' : List ℕ) : Type 0 where
+  pub seen : i ≡ pending m
+  pub left : m' ≡ taken m
+  pub whole : length m' ≡ 65536

@@ -1,0 +1,2 @@
+-- The wait of a return.
+pub mod Waits
