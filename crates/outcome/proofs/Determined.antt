@@ -1,0 +1,19 @@
+-- The contracts of the `number` methods leave one answer to every input.
+use mathlib.Core.Path.{sym, _∙_}
+use Rattle.sm83.proofs.OneAnswer.{OneAnswer}
+use Rattle.outcome.proofs.Refusal.number.Reads as Refusal-number
+use Rattle.outcome.proofs.Outcome.number.Reads as Outcome-number
+use Rattle.outcome.proofs.LastOutcome.number.Reads as LastOutcome-number
+use Rattle.outcome.proofs.Verdict.number.Reads as Verdict-number
+
+pub Refusal-number-determined : OneAnswer Refusal-number.Post
+Refusal-number-determined κs input v w left other p q = p ∙ sym q
+
+pub Outcome-number-determined : OneAnswer Outcome-number.Post
+Outcome-number-determined κs input v w left other p q = p ∙ sym q
+
+pub LastOutcome-number-determined : OneAnswer LastOutcome-number.Post
+LastOutcome-number-determined κs input v w left other p q = p ∙ sym q
+
+pub Verdict-number-determined : OneAnswer Verdict-number.Post
+Verdict-number-determined κs input v w left other p q = p ∙ sym q

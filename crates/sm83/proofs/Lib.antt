@@ -1,0 +1,3 @@
+-- That the contracts leave one answer.
+pub mod OneAnswer
+pub mod Determined
