@@ -16,6 +16,7 @@ pub mod Calm
 pub mod Moves
 pub mod Keeper
 pub mod Inside
+pub mod NoCalls
 pub mod Covered
 pub mod Alone
 pub mod Demand3

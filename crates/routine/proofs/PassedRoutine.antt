@@ -1,6 +1,6 @@
 -- Demand 3 in the document's own words: of the screen's verdict and of the marks that it leaves. "a passed routine, started at any marked address as the document says, keeps every PC at a marked instruction start, and no step is refused, halts, stops or takes an interrupt, until a return is taken or a step writes into the routine."
-use mathlib.Core.Path.{_≡_, refl, ap, sym, subst, subst⁻¹, _∙_}
-use mathlib.Core.List.{List}
+use mathlib.Core.Path.{_≡_, subst, subst⁻¹}
+use mathlib.Core.List.{List, []}
 use Prim.Native.Nat.{ℕ, _+_, _≤_, _<_}
 use native.Mathlib.Omega.{arith}
 use lib.Dec.{T}
@@ -12,12 +12,14 @@ use Rattle.sm83.specs.State.{pc}
 use Rattle.definition.specs.Run.{runFor}
 use Rattle.routine.specs.Rules.{Start, Rules}
 use Rattle.routine.specs.Screen.{marksOf, isMarked, screen}
-use Rattle.routine.specs.Trace.{Quiet, Fine, isFineLast, SameWindow, stateAt, stepAt, GoesOn, StaysToTheLast, StaysToTheEnd}
+use Rattle.routine.specs.Trace.{Quiet, Fine, isFineLast, Pending, SameWindow, stateAt, stepAt, GoesOn, StaysToTheLast, StaysToTheEnd, runStateAt, runPendingAt, runAt, runStepState, runStep, RunStaysToTheLast, RunStaysToTheEnd, RunGoesOn}
 use Rattle.routine.proofs.Marks.{marked-start}
 use Rattle.routine.proofs.Before.{window, Admitted}
 use Rattle.routine.proofs.Answers.{when-passed}
-use Rattle.routine.proofs.Demand3.{on-plain-memory}
-use Rattle.routine.proofs.RunDemand3.{plain-run-fine, plain-run-ends}
+use Rattle.routine.proofs.Keeper.{plain-keeps}
+use Rattle.routine.proofs.Covered.{Covered, Passed}
+use Rattle.routine.proofs.Demand3.{demand3}
+use Rattle.routine.proofs.RunDemand3.{run-each, run-fine, run-covered, runs-covered}
 
 -- a window of a memory, from first to last, both addresses in it; the marks as they were lent
 module _ (m : List ℕ) (first last : ℕ) (lent : List ℕ) (passes : screen m first last lent .verdict ≡ Passes) (address : last < 65536) where
@@ -40,23 +42,62 @@ module _ (m : List ℕ) (first last : ℕ) (lent : List ℕ) (passes : screen m 
   marks : (a : ℕ) → Start m first (first + n) a → Marked a
   marks a start = subst⁻¹ (λ (l : List ℕ). T (isMarked l first a)) (when-passed m first last lent passes .2) (marked-start m first n a .1 start)
 
+  passed : Passed plain m first n
+  passed = record { rules = rules; low = low; keeper = plain-keeps first n }
+
+  -- "Start a passed routine at any marked address, in a state that a step accepts, awake, with interrupts off and none being enabled": the window stands in the memory as it was screened, and no call is pending.
+  module _ {m' : List ℕ} (whole : length m' ≡ 65536) (same : SameWindow plain first n m m') {s : Cpu} (quiet : Quiet s) (marked : Marked (pc s)) where
+    started : Covered plain m first n s m' []
+    started = record { is-quiet = quiet; at-start = starts (pc s) marked; shows = same; whole = whole; calls-pending = tt }
+
+  -- a covered state in the document's words
+  in-place : {s : Cpu} {m' : List ℕ} {l : List Pending} → Covered plain m first n s m' l → Marked (pc s) × Quiet s
+  in-place {s} c = (marks (pc s) (c .at-start), c .is-quiet)
+
   -- For any number of steps, with a host that changes what it likes outside the window between two of them.
   -- The last step is covered whatever it does: it may take a return or write into the window.
   pub demand-3 : (mem : ℕ → List ℕ) → length (mem 0) ≡ 65536 → SameWindow plain first n m (mem 0)
       → (s : Cpu) → Quiet s → Marked (pc s)
-      → (k : ℕ) → ((i : ℕ) → i < k → GoesOn plain first n mem s i)
+      → (k : ℕ) → ((i : ℕ) → i < k → GoesOn plain first n mem s [] i)
       → Marked (pc (stateAt plain mem s k)) × Quiet (stateAt plain mem s k) × Fine (stepAt plain mem s k)
   demand-3 mem whole same s quiet marked k goes =
-      let end : _ = on-plain-memory m first n rules low mem whole same s quiet (starts (pc s) marked) k goes in
-      (marks (pc (stateAt plain mem s k)) (end .0), end .1, end .2)
+      let end : _ = demand3 passed mem s [] (started whole same quiet marked) k goes in
+      let place : _ = in-place (end .0) in
+      (place .0, place .1, end .1)
 
-  -- The budgeted run: its last outcome, if no step before the last takes a return or writes into the window; and its end, if none does.
-  pub demand-3-run : length m ≡ 65536 → (s : Cpu) → Quiet s → Marked (pc s) → (budget : ℕ)
-      → StaysToTheLast plain first n budget s m → T (isFineLast (runFor plain budget s m .last))
-  demand-3-run whole s quiet marked budget = plain-run-fine m first n rules low whole s quiet (starts (pc s) marked) budget
+  -- For any number of runs one after the other, with such a host between two of them: each step of the last run, and its last outcome.
+  -- Its last step may do as it likes.
+  pub demand-3-runs : (budget : ℕ → ℕ) (mem : ℕ → List ℕ) → length (mem 0) ≡ 65536 → SameWindow plain first n m (mem 0)
+      → (s : Cpu) → Quiet s → Marked (pc s)
+      → (k : ℕ) → ((j : ℕ) → j < k → RunGoesOn plain first n budget mem s [] j) → RunStaysToTheLast plain first n budget mem s [] k
+      → ((i : ℕ) → i < runAt plain budget mem s k .steps → Marked (pc (runStepState plain budget mem s k i)) × Quiet (runStepState plain budget mem s k i) × Fine (runStep plain budget mem s k i))
+      × T (isFineLast (runAt plain budget mem s k .last))
+  demand-3-runs budget mem whole same s quiet marked k goes stays =
+      let begun : _ = runs-covered passed budget mem s [] (started whole same quiet marked) k goes in
+      ((λ i below. let end : _ = run-each passed begun (budget k) stays i below in let place : _ = in-place (end .0) in (place .0, place .1, end .1)),
+      run-fine passed begun (budget k) stays)
 
-  pub demand-3-run-ends : length m ≡ 65536 → (s : Cpu) → Quiet s → Marked (pc s) → (budget : ℕ)
-      → StaysToTheEnd plain first n budget s m → Marked (pc (runFor plain budget s m .cpu)) × Quiet (runFor plain budget s m .cpu)
-  demand-3-run-ends whole s quiet marked budget stays =
-      let end : _ = plain-run-ends m first n rules low whole s quiet (starts (pc s) marked) budget stays in
-      (marks (pc (runFor plain budget s m .cpu)) (end .0), end .1)
+  -- and where the last run ends, if its last step stays too
+  pub demand-3-runs-end : (budget : ℕ → ℕ) (mem : ℕ → List ℕ) → length (mem 0) ≡ 65536 → SameWindow plain first n m (mem 0)
+      → (s : Cpu) → Quiet s → Marked (pc s)
+      → (k : ℕ) → ((j : ℕ) → j < k → RunGoesOn plain first n budget mem s [] j) → RunStaysToTheEnd plain first n budget mem s [] k
+      → Marked (pc (runAt plain budget mem s k .cpu)) × Quiet (runAt plain budget mem s k .cpu)
+  demand-3-runs-end budget mem whole same s quiet marked k goes stays =
+      in-place (run-covered passed (runs-covered passed budget mem s [] (started whole same quiet marked) k goes) (budget k) stays)
+
+  -- One run.
+  pub demand-3-run : (m' : List ℕ) → length m' ≡ 65536 → SameWindow plain first n m m'
+      → (s : Cpu) → Quiet s → Marked (pc s)
+      → (budget : ℕ) → StaysToTheLast plain first n budget s m' []
+      → T (isFineLast (runFor plain budget s m' .last))
+  unfolding runStateAt runPendingAt
+  demand-3-run m' whole same s quiet marked budget stays =
+      demand-3-runs (λ j. budget) (λ j. m') whole same s quiet marked 0 (λ j below. absurd (omega arith)) stays .1
+
+  pub demand-3-run-ends : (m' : List ℕ) → length m' ≡ 65536 → SameWindow plain first n m m'
+      → (s : Cpu) → Quiet s → Marked (pc s)
+      → (budget : ℕ) → StaysToTheEnd plain first n budget s m' []
+      → Marked (pc (runFor plain budget s m' .cpu)) × Quiet (runFor plain budget s m' .cpu)
+  unfolding runStateAt runPendingAt
+  demand-3-run-ends m' whole same s quiet marked budget stays =
+      demand-3-runs-end (λ j. budget) (λ j. m') whole same s quiet marked 0 (λ j below. absurd (omega arith)) stays
