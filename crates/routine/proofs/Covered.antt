@@ -5,10 +5,10 @@ use mathlib.Core.List.{List}
 use Prim.Native.Nat.{ℕ, _+_, _≤_, _<_}
 use lib.Dec.{T}
 use Rattle.sm83.specs.declared.Cpu.{Cpu}
-use Rattle.definition.specs.Bus.{Bus, Ran, byteAt}
+use Rattle.definition.specs.Bus.{Bus, byteAt}
 use Rattle.sm83.specs.State.{pc, flags}
 use Rattle.opcodes.specs.Instruction.{decode}
-use Rattle.definition.specs.Step.{Ended, stepTree, Admission, accepted, admission, admitted, stepOn}
+use Rattle.definition.specs.Step.{stepTree, Admission, accepted, admission, admitted, stepOn}
 use Rattle.routine.specs.Flow.{instructionAt, flowAt, returns}
 use Rattle.routine.specs.Rules.{Start, Rules}
 use Rattle.routine.specs.Trace.{Quiet, Fine, spares, Pending, pendingAfter, instructionFrom, returnsHome, SameWindow, SamePending}

@@ -1,18 +1,12 @@
 -- Demand 3: "a passed routine, started at any marked address as the document says, keeps every PC at a marked instruction start, and no step is refused, halts, stops or takes an interrupt, until a return is taken or a step writes into the routine."
 -- For any number of steps, on any kind of memory that keeps the routine, with a host that may change all else between two steps.
-use mathlib.Core.Path.{_≡_, subst⁻¹, _∙_}
-use mathlib.Core.Bool.{not}
+use mathlib.Core.Path.{subst⁻¹}
 use mathlib.Core.List.{List}
-use Prim.Native.Nat.{ℕ, zero, suc, _+_, _≤_, _<_}
+use Prim.Native.Nat.{ℕ, zero, suc, _<_}
 use native.Mathlib.Omega.{arith}
-use lib.Dec.{T}
-use lib.ListN.{length}
 use Rattle.sm83.specs.declared.Cpu.{Cpu}
-use Rattle.definition.specs.Bus.{Bus, plain}
-use Rattle.sm83.specs.State.{pc}
-use Rattle.routine.specs.Rules.{Start, Rules}
+use Rattle.definition.specs.Bus.{Bus}
 use Rattle.routine.specs.Trace.{Fine, Pending, stateAt, stepAt, pendingAt, Stays, GoesOn, memoryAt}
-use Rattle.routine.proofs.Keeper.{plain-keeps}
 use Rattle.routine.proofs.Covered.{Covered, Passed, host-covered, step-fine, step-stays}
 use Rattle.routine.proofs.Alone.{alone}
 
@@ -39,7 +33,10 @@ module _ {W : Type 0} {b : Bus W} {screened : List ℕ} {first n : ℕ} (passed 
 
     -- with a host
     pub demand3 : Covered b screened first n s (mem 0) l → (k : ℕ) → ((i : ℕ) → i < k → GoesOn b first n mem s l i) → CoveredAt k (mem k) × Fine (stepAt b mem s k)
-    demand3 begun k goes = and-fine k (keeps-covered begun k (λ i below. let g : _ = goes i below in (g .stays, host-covered (g .host) (g .host-pending) (g .whole))))
+    demand3 begun k goes = and-fine k (keeps-covered begun k (λ i below. follows i (goes i below)))
+      where
+        follows : (i : ℕ) → GoesOn b first n mem s l i → Follows i
+        follows i g = (g .stays, host-covered (g .host) (g .host-pending) (g .whole))
 
   -- with none
   pub demand3-alone : (s : Cpu) (m : W) (l : List Pending) → Covered b screened first n s m l → (k : ℕ) → ((i : ℕ) → i < k → Stays b first n (memoryAt b s m) s l i) → CoveredAt (memoryAt b s m) s l k (memoryAt b s m k) × Fine (stepAt b (memoryAt b s m) s k)

@@ -7,11 +7,12 @@ use lib.Dec.{T}
 use lib.ListN.{length}
 use Rattle.sm83.specs.declared.Cpu.{Cpu}
 use Rattle.outcome.specs.declared.Verdict.the-variants.{Passes}
-use Rattle.definition.specs.Bus.{plain}
+use Rattle.definition.specs.Bus.{Ran, plain}
 use Rattle.sm83.specs.State.{pc}
+use Rattle.definition.specs.Step.{Ended}
 use Rattle.definition.specs.Run.{runFor}
 use Rattle.routine.specs.Rules.{Start, Rules}
-use Rattle.routine.specs.Screen.{marksOf, isMarked, screen}
+use Rattle.routine.specs.Screen.{isMarked, screen}
 use Rattle.routine.specs.Trace.{Quiet, Fine, isFineLast, Pending, SameWindow, stateAt, stepAt, GoesOn, StaysToTheLast, StaysToTheEnd, runStateAt, runPendingAt, runAt, runStepState, runStep, RunStaysToTheLast, RunStaysToTheEnd, RunGoesOn}
 use Rattle.routine.proofs.Marks.{marked-start}
 use Rattle.routine.proofs.Before.{window, Admitted}
@@ -45,14 +46,15 @@ module _ (m : List ℕ) (first last : ℕ) (lent : List ℕ) (passes : screen m 
   passed : Passed plain m first n
   passed = record { rules = rules; low = low; keeper = plain-keeps first n }
 
-  -- "Start a passed routine at any marked address, in a state that a step accepts, awake, with interrupts off and none being enabled": the window stands in the memory as it was screened, and no call is pending.
-  module _ {m' : List ℕ} (whole : length m' ≡ 65536) (same : SameWindow plain first n m m') {s : Cpu} (quiet : Quiet s) (marked : Marked (pc s)) where
-    started : Covered plain m first n s m' []
-    started = record { is-quiet = quiet; at-start = starts (pc s) marked; shows = same; whole = whole; calls-pending = tt }
+  -- "started at any marked address as the document says": where the window stands as it was screened, and no call is pending
+  started : {s : Cpu} {m' : List ℕ} → length m' ≡ 65536 → SameWindow plain first n m m' → Quiet s → Marked (pc s) → Covered plain m first n s m' []
+  started {s} whole same quiet marked = record { is-quiet = quiet; at-start = starts (pc s) marked; shows = same; whole = whole; calls-pending = tt }
 
-  -- a covered state in the document's words
   in-place : {s : Cpu} {m' : List ℕ} {l : List Pending} → Covered plain m first n s m' l → Marked (pc s) × Quiet s
   in-place {s} c = (marks (pc s) (c .at-start), c .is-quiet)
+
+  and-fine : {s : Cpu} {m' : List ℕ} {l : List Pending} {r : Ran (List ℕ) Ended} → Covered plain m first n s m' l × Fine r → Marked (pc s) × Quiet s × Fine r
+  and-fine {s} c = (marks (pc s) (c .0 .at-start), c .0 .is-quiet, c .1)
 
   -- For any number of steps, with a host that changes what it likes outside the window between two of them.
   -- The last step is covered whatever it does: it may take a return or write into the window.
@@ -61,9 +63,7 @@ module _ (m : List ℕ) (first last : ℕ) (lent : List ℕ) (passes : screen m 
       → (k : ℕ) → ((i : ℕ) → i < k → GoesOn plain first n mem s [] i)
       → Marked (pc (stateAt plain mem s k)) × Quiet (stateAt plain mem s k) × Fine (stepAt plain mem s k)
   demand-3 mem whole same s quiet marked k goes =
-      let end : _ = demand3 passed mem s [] (started whole same quiet marked) k goes in
-      let place : _ = in-place (end .0) in
-      (place .0, place .1, end .1)
+      and-fine (demand3 passed mem s [] (started whole same quiet marked) k goes)
 
   -- For any number of runs one after the other, with such a host between two of them: each step of the last run, and its last outcome.
   -- Its last step may do as it likes.
@@ -74,8 +74,7 @@ module _ (m : List ℕ) (first last : ℕ) (lent : List ℕ) (passes : screen m 
       × T (isFineLast (runAt plain budget mem s k .last))
   demand-3-runs budget mem whole same s quiet marked k goes stays =
       let begun : _ = runs-covered passed budget mem s [] (started whole same quiet marked) k goes in
-      ((λ i below. let end : _ = run-each passed begun (budget k) stays i below in let place : _ = in-place (end .0) in (place .0, place .1, end .1)),
-      run-fine passed begun (budget k) stays)
+      ((λ i below. and-fine (run-each passed begun (budget k) stays i below)), run-fine passed begun (budget k) stays)
 
   -- and where the last run ends, if its last step stays too
   pub demand-3-runs-end : (budget : ℕ → ℕ) (mem : ℕ → List ℕ) → length (mem 0) ≡ 65536 → SameWindow plain first n m (mem 0)
