@@ -19,9 +19,11 @@ pub mod Parts
 pub mod Runs
 pub mod Stops
 pub mod Stopping
+pub mod Split
 -- which of the seven points a step takes; refusals; interrupts
 pub mod Interrupts
 pub mod Course
+pub mod LowBits
 pub mod PlainCourse
 pub mod NeverRefuses
 pub mod Refusals

@@ -1,10 +1,10 @@
 -- "When the core says no", 1 to 3, for every state and every kind of memory: when each refusal is answered, and what it leaves.
-use mathlib.Core.Path.{_≡_, refl, ap, subst, _∙_}
+use mathlib.Core.Path.{_≡_, refl, ap, subst, subst⁻¹, _∙_}
 use mathlib.Core.Logic.{_≢_}
 use mathlib.Core.Bool.{Bool, true, false, not, _||_}
 use mathlib.Core.List.{List, [], _∷_, _++_}
 use Prim.Native.Nat.{ℕ, _%_, _<_}
-use lib.Dec.{eqb, T}
+use lib.Dec.{eqb, eqb→eq, T}
 use lib.ListN.{length}
 use borrow.Author.Tests.{eq-eqb, ne-eqb}
 use Rattle.sm83.specs.declared.CpuRegisters.{CpuRegisters}
@@ -26,6 +26,15 @@ use Rattle.definition.proofs.Compose.{after}
 use Rattle.definition.proofs.PlainCourse.{idles, rousedFrom, woke-plain, passed-plain, same-ime}
 use Rattle.definition.proofs.Course.{Woke, was-awake, woke-dmg, woke-cgb, Passed, endedAs, wakes, passes, woke-pc, woke-awake}
 
+abbrev pub isAccepted : Admission → Bool
+isAccepted accepted = true
+isAccepted (refusedAs r) = false
+
+both-passed : (t u : Bool) → T (isAccepted (if t then (if u then accepted else refusedAs LowBitsOfF) else refusedAs MemoryLength)) → T t × T u
+both-passed true true h = (tt, tt)
+both-passed true false h = absurd h
+both-passed false u h = absurd h
+
 module _ {W : Type 0} (b : Bus W) (s : Cpu) (m : W) where
   length-first : b .size m ≢ 65536 → admission b s m ≡ refusedAs MemoryLength
   length-first h = ap (λ (t : Bool). if t then (if eqb (flags s % 16) 0 then accepted else refusedAs LowBitsOfF) else refusedAs MemoryLength) (ne-eqb (b .size m) 65536 h)
@@ -38,6 +47,11 @@ module _ {W : Type 0} (b : Bus W) (s : Cpu) (m : W) where
   -- "A step accepts a state when neither of the two refuses it."
   pub accepts : b .size m ≡ 65536 → flags s % 16 ≡ 0 → admission b s m ≡ accepted
   accepts h f = then-flags true h (eq-eqb (flags s % 16) 0 f)
+
+  pub accepts-only : admission b s m ≡ accepted → (b .size m ≡ 65536) × (flags s % 16 ≡ 0)
+  accepts-only e =
+      let h : _ = both-passed (eqb (b .size m) 65536) (eqb (flags s % 16) 0) (subst⁻¹ (λ (v : Admission). T (isAccepted v)) e tt) in
+      (eqb→eq (b .size m) 65536 (h .0), eqb→eq (flags s % 16) 0 (h .1))
 
 -- Step and run refuse for this reason, with this number, and leave "state, bytes and marks as they came, 0 M-cycles"; the run "also with budget 0".
 pub record RefusedWhole {W : Type 0} (b : Bus W) (s : Cpu) (m : W) (why : Refusal) (n : ℕ) : Type 0 where
