@@ -6,3 +6,5 @@ pub mod KeepingStep
 pub mod Ranges
 -- nothing else is refused
 pub mod RefusesOnly
+-- a run equals its pieces
+pub mod RunPieces
