@@ -25,7 +25,7 @@ use Rattle.outcome.specs.declared.LastOutcome.the-variants.{Last}
 use Rattle.definition.proofs.Course.{Woke, Passed, Course, point1, point2, point3, point4, points5to7, course, woke-pc}
 use Rattle.definition.proofs.NeverRefuses.{refuses, never-run, execute-never}
 use Rattle.opcodes.proofs.Illegal.{isIllegal, illegal-is}
-use Rattle.definition.proofs.Refusals.{pc-enabled, accepts}
+use Rattle.definition.proofs.Refusals.{isAccepted, pc-enabled, accepts}
 use Rattle.definition.proofs.PlainCourse.{woke-same, passed-same}
 use Rattle.definition.proofs.Runs.{LastSays, run-keeps}
 use Rattle.ranges.proofs.Ranges.{Lawful, Sized, InRange, step-ranges, step-size}
@@ -100,10 +100,6 @@ byte-illegal s m n e (illegal-opcode z f p q woke passed i) = subst (λ (w : Lis
 
 pub refuses-only-plain : (s : Cpu) (m : List ℕ) (r : Refusal) → stepOn plain s m .value .outcome ≡ Refused r → numberOf r ≡ 3 → decode (byteAt m (pc s)) ≡ ILLEGAL
 refuses-only-plain s m r e n = byte-illegal s m (numberOf r) n (refuses-only plain s m r e)
-
-abbrev isAccepted : Admission → Bool
-isAccepted accepted = true
-isAccepted (refusedAs r) = false
 
 never-refused : (r : Refusal) → accepted ≡ refusedAs r → ⊥
 never-refused r e = subst (λ (v : Admission). T (isAccepted v)) e tt

@@ -8,8 +8,9 @@ use Rattle.outcome.specs.declared.LastOutcome.{LastOutcome}
 use Rattle.outcome.specs.declared.LastOutcome.the-variants.{NothingRun, Last}
 use Rattle.sm83.specs.Basics.{if_then_else_}
 use Rattle.definition.specs.Bus.{Bus, mcycles}
-use Rattle.definition.specs.Step.{Admission, accepted, admission, stepOn}
-use Rattle.definition.specs.Run.{stopsRun, RunAnswer, thenRest, repeated, admittedRun, runFor}
+use Rattle.definition.specs.Step.{accepted, admission, stepOn}
+use Rattle.definition.specs.Run.{stopsRun, RunAnswer, thenRest, repeated, runFor}
+use Rattle.definition.proofs.Split.{run-as}
 use Rattle.routine.specs.Trace.{stateAt, stepAt, memoryAt}
 
 either-way : {W : Type 0} (P : RunAnswer W → Type 0) (test : Bool) (x y : RunAnswer W) → P x → P y → P (if test then x else y)
@@ -73,8 +74,7 @@ module _ {W : Type 0} (b : Bus W) where
   -- The run, of a state that it accepts.
   module _ (budget : ℕ) (s : Cpu) (m : W) (accepts : admission b s m ≡ accepted) where
     runs : runFor b budget s m ≡ repeated b NothingRun budget s m
-    unfolding runFor
-    runs = ap (λ (a : Admission). admittedRun a b budget s m) accepts
+    runs = run-as b budget s m accepts
 
     pub run-end : AtItsEnd s m (runFor b budget s m)
     run-end = subst⁻¹ (AtItsEnd s m) runs (at-its-end budget NothingRun s m)

@@ -13,10 +13,10 @@ use Rattle.sm83.specs.State.{pc, sp, flags, setPC, setSP, setF, onRegisters}
 use Rattle.opcodes.specs.Instruction.{Reg8, rB, rC, rD, rE, rH, rL, [HL], rA, Reg16, rBC, rDE, rHL, rSP, Stacked, pBC, pDE, pHL, pAF, Pointer, [BC], [DE], [HL+], [HL-]}
 use Rattle.opcodes.specs.Instruction.{Work, NOP, DI, LD-r8-r8, LD-r8-n8, LD-r16-n16, LD-[r16]-A, LD-A-[r16], LD-[n16]-A, LD-A-[n16], LDH-[n8]-A, LDH-A-[n8], LDH-[C]-A, LDH-A-[C], LD-[n16]-SP, LD-SP-HL, LD-HL-SP+e8, ADD-SP-e8, ALU-A-r8, ALU-A-n8, ACC, INC-r8, DEC-r8, INC-r16, DEC-r16, ADD-HL-r16, PUSH-r16, POP-r16, workOperands}
 use Rattle.opcodes.specs.Instruction.{Prefixed, SHIFT-r8, BIT-u3-r8, RES-u3-r8, SET-u3-r8}
+use Rattle.opcodes.proofs.FlagLaws.{alu-obeys, acc-obeys, shift-obeys}
 use Rattle.definition.specs.Execution.{get8, put8, put16, putStacked, moved, work, prefixed, executing}
 use Rattle.definition.specs.Step.{Ended, ended}
 use Rattle.routine.specs.Trace.{isFine}
-use Rattle.routine.proofs.LowBits.{alu-low, acc-low, shift-low}
 
 abbrev pub anything : ℕ → ℕ → Type 0
 anything a v = Unit {0}
@@ -80,7 +80,7 @@ module _ (K : ℕ → ℕ → Type 0) {p : ℕ} where
 
   pub prefixed-ends : (i : Prefixed) (s : Cpu) → Calm s → pc s ≡ p → Ends K (LeftAt p) (prefixed i s done)
   unfolding prefixed
-  prefixed-ends (SHIFT-r8 op to) s c e = get8-ends K _ to s _ (λ x. put8-ends to _ _ (tt, withFlags s _ c (shift-low op x (flags s)), e))
+  prefixed-ends (SHIFT-r8 op to) s c e = get8-ends K _ to s _ (λ x. put8-ends to _ _ (tt, withFlags s _ c (shift-obeys op x (flags s) .low-bits (c .5)), e))
   prefixed-ends (BIT-u3-r8 n from) s c e = get8-ends K _ from s _ (λ x. (tt, withFlags s _ c (omega arith), e))
   prefixed-ends (RES-u3-r8 n to) s c e = get8-ends K _ to s _ (λ x. put8-ends to _ _ (tt, c, e))
   prefixed-ends (SET-u3-r8 n to) s c e = get8-ends K _ to s _ (λ x. put8-ends to _ _ (tt, c, e))
@@ -127,9 +127,9 @@ work-ends K LD-[n16]-SP s c = λ x _ y _. (tt, c, refl)
 work-ends K LD-SP-HL s c = (tt, c, refl)
 work-ends K LD-HL-SP+e8 s c = λ e _. (tt, withFlags s _ c (omega arith), refl)
 work-ends K ADD-SP-e8 s c = λ e _. (tt, withFlags s _ c (omega arith), refl)
-work-ends K (ALU-A-r8 op from) s c = get8-ends K _ from s _ (λ x. (tt, withFlags s _ c (alu-low op (s .registers .a) x (flags s)), refl))
-work-ends K (ALU-A-n8 op) s c = λ x _. (tt, withFlags s _ c (alu-low op (s .registers .a) x (flags s)), refl)
-work-ends K (ACC op) s c = (tt, withFlags s _ c (acc-low op (s .registers .a) (flags s)), refl)
+work-ends K (ALU-A-r8 op from) s c = get8-ends K _ from s _ (λ x. (tt, withFlags s _ c (alu-obeys op (s .registers .a) x (flags s) .low-bits (c .5)), refl))
+work-ends K (ALU-A-n8 op) s c = λ x _. (tt, withFlags s _ c (alu-obeys op (s .registers .a) x (flags s) .low-bits (c .5)), refl)
+work-ends K (ACC op) s c = (tt, withFlags s _ c (acc-obeys op (s .registers .a) (flags s) .low-bits (c .5)), refl)
 work-ends K (INC-r8 to) s c = get8-ends K _ to s _ (λ x. put8-ends K to _ _ (tt, withFlags s _ c (omega arith), refl))
 work-ends K (DEC-r8 to) s c = get8-ends K _ to s _ (λ x. put8-ends K to _ _ (tt, withFlags s _ c (omega arith), refl))
 work-ends K (INC-r16 to) s c = put16-left to _ s (tt, c, refl)

@@ -42,8 +42,8 @@ pub accepts : {W : Type 0} {b : Bus W} {screened : List ℕ} {first n : ℕ} {s 
 accepts c = simp (c .whole, c .is-quiet .low-bits)
 
 -- A host may change what it likes, but neither the window nor the two bytes of a pending call.
-pub host-covered : {W : Type 0} {b : Bus W} {screened : List ℕ} {first n : ℕ} {s : Cpu} {m m' : W} {l : List Pending} → SameWindow b first n m m' → SamePending b l m m' → b .size m' ≡ 65536 → Covered b screened first n s m l → Covered b screened first n s m' l
-host-covered same pending whole c =
+pub host-covered : {W : Type 0} {b : Bus W} {screened : List ℕ} {first n : ℕ} {s : Cpu} {m m' : W} {l : List Pending} → Covered b screened first n s m l → SameWindow b first n m m' → SamePending b l m m' → b .size m' ≡ 65536 → Covered b screened first n s m' l
+host-covered c same pending whole =
     record { is-quiet = c .is-quiet; at-start = c .at-start; shows = λ a from to. same a from to ∙ c .shows a from to; whole = whole; calls-pending = c .calls-pending }
 
 module _ {W : Type 0} {b : Bus W} {screened : List ℕ} {first n : ℕ} (passed : Passed b screened first n) {s : Cpu} {m : W} {l : List Pending} (c : Covered b screened first n s m l) where

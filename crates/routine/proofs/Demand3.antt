@@ -36,7 +36,7 @@ module _ {W : Type 0} {b : Bus W} {screened : List ℕ} {first n : ℕ} (passed 
     demand3 begun k goes = and-fine k (keeps-covered begun k (λ i below. follows i (goes i below)))
       where
         follows : (i : ℕ) → GoesOn b first n mem s l i → Follows i
-        follows i g = (g .stays, host-covered (g .host) (g .host-pending) (g .whole))
+        follows i g = (g .stays, λ c. host-covered c (g .host) (g .host-pending) (g .whole))
 
   -- with none
   pub demand3-alone : (s : Cpu) (m : W) (l : List Pending) → Covered b screened first n s m l → (k : ℕ) → ((i : ℕ) → i < k → Stays b first n (memoryAt b s m) s l i) → CoveredAt (memoryAt b s m) s l k (memoryAt b s m k) × Fine (stepAt b (memoryAt b s m) s k)

@@ -11,7 +11,6 @@ pub mod Before
 pub mod Answers
 pub mod Opcodes
 pub mod Windows
-pub mod LowBits
 pub mod Calm
 pub mod Moves
 pub mod Keeper

@@ -40,4 +40,5 @@ module _ {W : Type 0} {b : Bus W} {screened : List ℕ} {first n : ℕ} (passed 
   runs-covered budget mem s l begun zero goes = begun
   runs-covered budget mem s l begun (suc k) goes =
       let g : RunGoesOn b first n budget mem s l k = goes k (omega arith) in
-      host-covered (g .host) (g .host-pending) (g .whole) (run-covered (runs-covered budget mem s l begun k (λ j below. goes j (omega arith))) (budget k) (g .stays))
+      let before : Covered b screened first n (runStateAt b budget mem s k) (mem k) (runPendingAt b budget mem s l k) = runs-covered budget mem s l begun k (λ j below. goes j (omega arith)) in
+      host-covered (run-covered before (budget k) (g .stays)) (g .host) (g .host-pending) (g .whole)
