@@ -70,9 +70,23 @@ pub record Fine {W : Type 0} (r : Ran W Ended) : Type 0 where
   pub none-taken : T (takesNone (r .accesses))
   pub leaves-quiet : Quiet (r .value .cpu)
 
--- The calls that have not returned. The screen forbids every CALL, so that there are none in a passed routine; 02, request 7, lets CALL through.
+-- The calls that have not returned. The screen forbids every CALL, so that each list of them is empty today. 02, request 7, lets CALL through:
+-- "Demand 3 then runs on through returns to the last pending call, on the condition that the return finds SP as that call left it and its two bytes not written since, neither by a step nor from outside. A return with nothing pending ends it".
 
--- a call that is made at the flags f. (RST is none: it stays forbidden.)
+-- where it returns to, and SP as it left it; in a list the last call comes first
+pub record Pending : Type 0 where
+  pub return-to : ℕ
+  pub sp : ℕ
+
+-- a call from a state: three bytes long, it pushes two
+abbrev pub calledFrom : Cpu → Pending
+calledFrom s = record { return-to = next (next (next (pc s))); sp = back (back (sp s)) }
+
+abbrev pub lastReturned : List Pending → List Pending
+lastReturned [] = []
+lastReturned (p ∷ l) = l
+
+-- a call that is made at the flags f ("RST stays forbidden": it is none)
 abbrev pub jumpCalls : Jump → ℕ → Bool
 jumpCalls JP-n16 f = false
 jumpCalls JP-HL f = false
@@ -96,29 +110,16 @@ calls EI f = false
 calls LD-B-B f = false
 calls ILLEGAL f = false
 
--- where it returns to, and SP as it left it: the address is in the two bytes from there on
-pub record Pending : Type 0 where
-  pub return-to : ℕ
-  pub sp : ℕ
-
-abbrev pub calledFrom : Cpu → Pending
-calledFrom s = record { return-to = next (next (next (pc s))); sp = back (back (sp s)) }
-
--- lists of them have the last call first
-abbrev pub lastReturned : List Pending → List Pending
-lastReturned [] = []
-lastReturned (p ∷ l) = l
-
--- after an instruction: a call is pending from now on, a return ends the last
+-- what is pending after an instruction: a call is, from now on; a return that is taken ends the last
 abbrev pub pendingAfter : Instruction → Cpu → List Pending → List Pending
 pendingAfter i s l = if calls i (flags s) then calledFrom s ∷ l else (if returns i (flags s) then lastReturned l else l)
 
--- SP is as the last pending call left it: with nothing pending, it is not
+-- "finds SP as that call left it"; "with nothing pending" there is none to find
 abbrev pub findsLast : Cpu → List Pending → Bool
 findsLast s [] = false
 findsLast s (p ∷ l) = eqb (sp s) (p .sp)
 
--- no access of the list writes one of the two bytes of a pending call: each is a window of one byte
+-- "its two bytes not written since": no access of the list writes one of them; each is a window of one byte
 abbrev pub sparesPending : List Pending → List Access → Bool
 sparesPending [] accesses = true
 sparesPending (p ∷ l) accesses = spares (p .sp) 1 accesses && spares (next (p .sp)) 1 accesses && sparesPending l accesses
@@ -132,7 +133,7 @@ module _ {W : Type 0} (b : Bus W) where
   abbrev pub takesReturn : Cpu → W → Bool
   takesReturn s m = returns (instructionFrom s m) (flags s)
 
-  -- "until a return is taken": it takes none, or one that the last pending call awaits
+  -- "until a return is taken": it takes one to the last pending call, or none; with nothing pending, none
   abbrev pub returnsHome : Cpu → W → List Pending → Bool
   returnsHome s m l = findsLast s l || not (takesReturn s m)
 
@@ -140,7 +141,7 @@ module _ {W : Type 0} (b : Bus W) where
   abbrev pub SameWindow : ℕ → ℕ → W → W → Type 0
   SameWindow first n m m' = (a : ℕ) → first ≤ a → a < first + n → b .sees m' a ≡ b .sees m a
 
-  -- and the first's two bytes of each pending call
+  -- and "its two bytes", of each pending call
   abbrev pub SamePending : List Pending → W → W → Type 0
   SamePending [] m m' = Unit {0}
   SamePending (p ∷ l) m m' = SameWindow (p .sp) 1 m m' × SameWindow (next (p .sp)) 1 m m' × SamePending l m m'
@@ -213,7 +214,7 @@ module _ {W : Type 0} (b : Bus W) where
     runPendingAt l zero = l
     runPendingAt l (suc j) = pendingAt (runMemory j) (runStateAt j) (runPendingAt l j) (runAt j .steps)
 
-  -- the steps of run j
+  -- the same of run j
   abbrev pub RunStaysToTheLast : ℕ → ℕ → (ℕ → ℕ) → (ℕ → W) → Cpu → List Pending → ℕ → Type 0
   RunStaysToTheLast first n budget mem s l j = StaysToTheLast first n (budget j) (runStateAt budget mem s j) (mem j) (runPendingAt budget mem s l j)
 
