@@ -20,4 +20,5 @@ pub mod Covered
 pub mod Alone
 pub mod Demand3
 pub mod RunDemand3
+pub mod NothingPending
 pub mod PassedRoutine

@@ -1,7 +1,7 @@
 -- Demand 3 in the document's own words: of the screen's verdict and of the marks that it leaves. "a passed routine, started at any marked address as the document says, keeps every PC at a marked instruction start, and no step is refused, halts, stops or takes an interrupt, until a return is taken or a step writes into the routine."
 use mathlib.Core.Path.{_≡_, subst, subst⁻¹}
 use mathlib.Core.List.{List, []}
-use Prim.Native.Nat.{ℕ, _+_, _≤_, _<_}
+use Prim.Native.Nat.{ℕ, suc, _+_, _≤_, _<_}
 use native.Mathlib.Omega.{arith}
 use lib.Dec.{T}
 use lib.ListN.{length}
@@ -13,7 +13,7 @@ use Rattle.definition.specs.Step.{Ended}
 use Rattle.definition.specs.Run.{runFor}
 use Rattle.routine.specs.Rules.{Start, Rules}
 use Rattle.routine.specs.Screen.{isMarked, screen}
-use Rattle.routine.specs.Trace.{Quiet, Fine, isFineLast, Pending, SameWindow, stateAt, stepAt, GoesOn, StaysToTheLast, StaysToTheEnd, runStateAt, runPendingAt, runAt, runStepState, runStep, RunStaysToTheLast, RunStaysToTheEnd, RunGoesOn}
+use Rattle.routine.specs.Trace.{Quiet, Fine, isFineLast, Pending, SameWindow, stateAt, stepAt, GoesOn, StaysToTheLast, StaysToTheEnd, runStateAt, runPendingAt, runAt, runMemory, runStepState, runStep, RunStaysToTheLast, RunStaysToTheEnd, RunGoesOn}
 use Rattle.routine.proofs.Marks.{marked-start}
 use Rattle.routine.proofs.Before.{window, Admitted}
 use Rattle.routine.proofs.Answers.{when-passed}
@@ -21,6 +21,7 @@ use Rattle.routine.proofs.Keeper.{plain-keeps}
 use Rattle.routine.proofs.Covered.{Covered, Passed}
 use Rattle.routine.proofs.Demand3.{demand3}
 use Rattle.routine.proofs.RunDemand3.{run-each, run-fine, run-covered, runs-covered}
+use Rattle.routine.proofs.NothingPending.{Inside, LeftAlone, RunLeftAlone, goes-on, stays-within, runs-go-on}
 
 -- a window of a memory, from first to last, both addresses in it; the marks as they were lent
 module _ (m : List ℕ) (first last : ℕ) (lent : List ℕ) (passes : screen m first last lent .verdict ≡ Passes) (address : last < 65536) where
@@ -100,3 +101,26 @@ module _ (m : List ℕ) (first last : ℕ) (lent : List ℕ) (passes : screen m 
   unfolding runStateAt runPendingAt
   demand-3-run-ends m' whole same s quiet marked budget stays =
       demand-3-runs-end (λ j. budget) (λ j. m') whole same s quiet marked 0 (λ j below. absurd (omega arith)) stays
+
+  -- Nothing more is asked than demand 3's own words, "until a return is taken or a step writes into the routine": no call is ever pending.
+
+  pub left-alone : (mem : ℕ → List ℕ) → length (mem 0) ≡ 65536 → SameWindow plain first n m (mem 0)
+      → (s : Cpu) → Quiet s → Marked (pc s)
+      → (k : ℕ) → ((i : ℕ) → i < k → LeftAlone plain first n mem s i)
+      → (i : ℕ) → i < k → GoesOn plain first n mem s [] i
+  left-alone mem whole same s quiet marked = goes-on passed mem s [] (started whole same quiet marked)
+
+  pub runs-left-alone : (budget : ℕ → ℕ) (mem : ℕ → List ℕ) → length (mem 0) ≡ 65536 → SameWindow plain first n m (mem 0)
+      → (s : Cpu) → Quiet s → Marked (pc s)
+      → (k : ℕ) → ((j : ℕ) → j < k → RunLeftAlone plain first n budget mem s j)
+      → (j : ℕ) → j < k → RunGoesOn plain first n budget mem s [] j
+  runs-left-alone budget mem whole same s quiet marked = runs-go-on passed budget mem s [] (started whole same quiet marked)
+
+  -- and of the last run's steps before its last
+  pub last-run-alone : (budget : ℕ → ℕ) (mem : ℕ → List ℕ) → length (mem 0) ≡ 65536 → SameWindow plain first n m (mem 0)
+      → (s : Cpu) → Quiet s → Marked (pc s)
+      → (k : ℕ) → ((j : ℕ) → j < k → RunGoesOn plain first n budget mem s [] j)
+      → ((i : ℕ) → suc i < runAt plain budget mem s k .steps → Inside plain first n (runMemory plain budget mem s k) (runStateAt plain budget mem s k) i)
+      → RunStaysToTheLast plain first n budget mem s [] k
+  last-run-alone budget mem whole same s quiet marked k goes inside i below =
+      stays-within passed (runs-covered passed budget mem s [] (started whole same quiet marked) k goes) i (λ j earlier. inside j (omega arith))
