@@ -57,70 +57,48 @@ module _ (m : List ℕ) (first last : ℕ) (lent : List ℕ) (passes : screen m 
   and-fine : {s : Cpu} {m' : List ℕ} {l : List Pending} {r : Ran (List ℕ) Ended} → Covered plain m first n s m' l × Fine r → Marked (pc s) × Quiet s × Fine r
   and-fine {s} c = (marks (pc s) (c .0 .at-start), c .0 .is-quiet, c .1)
 
-  -- For any number of steps, with a host that changes what it likes outside the window between two of them.
-  -- The last step is covered whatever it does: it may take a return or write into the window.
-  pub demand-3 : (mem : ℕ → List ℕ) → length (mem 0) ≡ 65536 → SameWindow plain first n m (mem 0)
-      → (s : Cpu) → Quiet s → Marked (pc s)
-      → (k : ℕ) → ((i : ℕ) → i < k → GoesOn plain first n mem s [] i)
-      → Marked (pc (stateAt plain mem s k)) × Quiet (stateAt plain mem s k) × Fine (stepAt plain mem s k)
-  demand-3 mem whole same s quiet marked k goes =
-      and-fine (demand3 passed mem s [] (started whole same quiet marked) k goes)
+  -- Any number of steps, where mem i is the memory before step i: between two of them a host changes what it likes outside the window.
+  module _ (mem : ℕ → List ℕ) (whole : length (mem 0) ≡ 65536) (same : SameWindow plain first n m (mem 0)) (s : Cpu) (quiet : Quiet s) (marked : Marked (pc s)) where
+    -- The last step is covered whatever it does: it may take a return or write into the window.
+    pub demand-3 : (k : ℕ) → ((i : ℕ) → i < k → GoesOn plain first n mem s [] i)
+        → Marked (pc (stateAt plain mem s k)) × Quiet (stateAt plain mem s k) × Fine (stepAt plain mem s k)
+    demand-3 k goes = and-fine (demand3 passed mem s [] (started whole same quiet marked) k goes)
 
-  -- For any number of runs one after the other, with such a host between two of them: each step of the last run, and its last outcome.
-  -- Its last step may do as it likes.
-  pub demand-3-runs : (budget : ℕ → ℕ) (mem : ℕ → List ℕ) → length (mem 0) ≡ 65536 → SameWindow plain first n m (mem 0)
-      → (s : Cpu) → Quiet s → Marked (pc s)
-      → (k : ℕ) → ((j : ℕ) → j < k → RunGoesOn plain first n budget mem s [] j) → RunStaysToTheLast plain first n budget mem s [] k
-      → ((i : ℕ) → i < runAt plain budget mem s k .steps → Marked (pc (runStepState plain budget mem s k i)) × Quiet (runStepState plain budget mem s k i) × Fine (runStep plain budget mem s k i))
-      × T (isFineLast (runAt plain budget mem s k .last))
-  demand-3-runs budget mem whole same s quiet marked k goes stays =
-      let begun : _ = runs-covered passed budget mem s [] (started whole same quiet marked) k goes in
-      ((λ i below. and-fine (run-each passed begun (budget k) stays i below)), run-fine passed begun (budget k) stays)
+    -- Nothing more is asked than demand 3's own words, "until a return is taken or a step writes into the routine": no call is ever pending.
+    pub left-alone : (k : ℕ) → ((i : ℕ) → i < k → LeftAlone plain first n mem s i) → (i : ℕ) → i < k → GoesOn plain first n mem s [] i
+    left-alone = goes-on passed mem s [] (started whole same quiet marked)
 
-  -- and where the last run ends, if its last step stays too
-  pub demand-3-runs-end : (budget : ℕ → ℕ) (mem : ℕ → List ℕ) → length (mem 0) ≡ 65536 → SameWindow plain first n m (mem 0)
-      → (s : Cpu) → Quiet s → Marked (pc s)
-      → (k : ℕ) → ((j : ℕ) → j < k → RunGoesOn plain first n budget mem s [] j) → RunStaysToTheEnd plain first n budget mem s [] k
-      → Marked (pc (runAt plain budget mem s k .cpu)) × Quiet (runAt plain budget mem s k .cpu)
-  demand-3-runs-end budget mem whole same s quiet marked k goes stays =
-      in-place (run-covered passed (runs-covered passed budget mem s [] (started whole same quiet marked) k goes) (budget k) stays)
+  -- Any number of runs one after the other, where mem j is the memory before run j: such a host between two of them.
+  module _ (budget : ℕ → ℕ) (mem : ℕ → List ℕ) (whole : length (mem 0) ≡ 65536) (same : SameWindow plain first n m (mem 0)) (s : Cpu) (quiet : Quiet s) (marked : Marked (pc s)) where
+    before-run : (k : ℕ) → ((j : ℕ) → j < k → RunGoesOn plain first n budget mem s [] j) → Covered plain m first n (runStateAt plain budget mem s k) (mem k) (runPendingAt plain budget mem s [] k)
+    before-run = runs-covered passed budget mem s [] (started whole same quiet marked)
+
+    -- each step of run k, and its last outcome; its last step may do as it likes
+    pub demand-3-runs : (k : ℕ) → ((j : ℕ) → j < k → RunGoesOn plain first n budget mem s [] j) → RunStaysToTheLast plain first n budget mem s [] k
+        → ((i : ℕ) → i < runAt plain budget mem s k .steps → Marked (pc (runStepState plain budget mem s k i)) × Quiet (runStepState plain budget mem s k i) × Fine (runStep plain budget mem s k i))
+        × T (isFineLast (runAt plain budget mem s k .last))
+    demand-3-runs k goes stays = ((λ i below. and-fine (run-each passed (before-run k goes) (budget k) stays i below)), run-fine passed (before-run k goes) (budget k) stays)
+
+    -- where run k ends, if its last step stays too
+    pub demand-3-runs-end : (k : ℕ) → ((j : ℕ) → j < k → RunGoesOn plain first n budget mem s [] j) → RunStaysToTheEnd plain first n budget mem s [] k
+        → Marked (pc (runAt plain budget mem s k .cpu)) × Quiet (runAt plain budget mem s k .cpu)
+    demand-3-runs-end k goes stays = in-place (run-covered passed (before-run k goes) (budget k) stays)
+
+    -- demand 3's own words, of the runs before run k and of run k's steps before its last
+    pub runs-left-alone : (k : ℕ) → ((j : ℕ) → j < k → RunLeftAlone plain first n budget mem s j) → (j : ℕ) → j < k → RunGoesOn plain first n budget mem s [] j
+    runs-left-alone = runs-go-on passed budget mem s [] (started whole same quiet marked)
+
+    pub last-run-left-alone : (k : ℕ) → ((j : ℕ) → j < k → RunGoesOn plain first n budget mem s [] j)
+        → ((i : ℕ) → suc i < runAt plain budget mem s k .steps → Inside plain first n (runMemory plain budget mem s k) (runStateAt plain budget mem s k) i)
+        → RunStaysToTheLast plain first n budget mem s [] k
+    last-run-left-alone k goes inside i below = stays-within passed (before-run k goes) i (λ j earlier. inside j (omega arith))
 
   -- One run.
-  pub demand-3-run : (m' : List ℕ) → length m' ≡ 65536 → SameWindow plain first n m m'
-      → (s : Cpu) → Quiet s → Marked (pc s)
-      → (budget : ℕ) → StaysToTheLast plain first n budget s m' []
-      → T (isFineLast (runFor plain budget s m' .last))
-  unfolding runStateAt runPendingAt
-  demand-3-run m' whole same s quiet marked budget stays =
-      demand-3-runs (λ j. budget) (λ j. m') whole same s quiet marked 0 (λ j below. absurd (omega arith)) stays .1
+  module _ (m' : List ℕ) (whole : length m' ≡ 65536) (same : SameWindow plain first n m m') (s : Cpu) (quiet : Quiet s) (marked : Marked (pc s)) (budget : ℕ) where
+    pub demand-3-run : StaysToTheLast plain first n budget s m' [] → T (isFineLast (runFor plain budget s m' .last))
+    unfolding runStateAt runPendingAt
+    demand-3-run stays = demand-3-runs (λ j. budget) (λ j. m') whole same s quiet marked 0 (λ j below. absurd (omega arith)) stays .1
 
-  pub demand-3-run-ends : (m' : List ℕ) → length m' ≡ 65536 → SameWindow plain first n m m'
-      → (s : Cpu) → Quiet s → Marked (pc s)
-      → (budget : ℕ) → StaysToTheEnd plain first n budget s m' []
-      → Marked (pc (runFor plain budget s m' .cpu)) × Quiet (runFor plain budget s m' .cpu)
-  unfolding runStateAt runPendingAt
-  demand-3-run-ends m' whole same s quiet marked budget stays =
-      demand-3-runs-end (λ j. budget) (λ j. m') whole same s quiet marked 0 (λ j below. absurd (omega arith)) stays
-
-  -- Nothing more is asked than demand 3's own words, "until a return is taken or a step writes into the routine": no call is ever pending.
-
-  pub left-alone : (mem : ℕ → List ℕ) → length (mem 0) ≡ 65536 → SameWindow plain first n m (mem 0)
-      → (s : Cpu) → Quiet s → Marked (pc s)
-      → (k : ℕ) → ((i : ℕ) → i < k → LeftAlone plain first n mem s i)
-      → (i : ℕ) → i < k → GoesOn plain first n mem s [] i
-  left-alone mem whole same s quiet marked = goes-on passed mem s [] (started whole same quiet marked)
-
-  pub runs-left-alone : (budget : ℕ → ℕ) (mem : ℕ → List ℕ) → length (mem 0) ≡ 65536 → SameWindow plain first n m (mem 0)
-      → (s : Cpu) → Quiet s → Marked (pc s)
-      → (k : ℕ) → ((j : ℕ) → j < k → RunLeftAlone plain first n budget mem s j)
-      → (j : ℕ) → j < k → RunGoesOn plain first n budget mem s [] j
-  runs-left-alone budget mem whole same s quiet marked = runs-go-on passed budget mem s [] (started whole same quiet marked)
-
-  -- and of the last run's steps before its last
-  pub last-run-alone : (budget : ℕ → ℕ) (mem : ℕ → List ℕ) → length (mem 0) ≡ 65536 → SameWindow plain first n m (mem 0)
-      → (s : Cpu) → Quiet s → Marked (pc s)
-      → (k : ℕ) → ((j : ℕ) → j < k → RunGoesOn plain first n budget mem s [] j)
-      → ((i : ℕ) → suc i < runAt plain budget mem s k .steps → Inside plain first n (runMemory plain budget mem s k) (runStateAt plain budget mem s k) i)
-      → RunStaysToTheLast plain first n budget mem s [] k
-  last-run-alone budget mem whole same s quiet marked k goes inside i below =
-      stays-within passed (runs-covered passed budget mem s [] (started whole same quiet marked) k goes) i (λ j earlier. inside j (omega arith))
+    pub demand-3-run-ends : StaysToTheEnd plain first n budget s m' [] → Marked (pc (runFor plain budget s m' .cpu)) × Quiet (runFor plain budget s m' .cpu)
+    unfolding runStateAt runPendingAt
+    demand-3-run-ends = demand-3-runs-end (λ j. budget) (λ j. m') whole same s quiet marked 0 (λ j below. absurd (omega arith))
