@@ -10,6 +10,7 @@ pub mod Decided
 pub mod Before
 pub mod Answers
 pub mod Opcodes
+pub mod PendingCalls
 pub mod Windows
 pub mod Calm
 pub mod Moves

@@ -1,4 +1,4 @@
--- The opcode bytes of each class, as lists: forbidden, ending a routine, jumping, returning; and the length of each. One computed test over all 256 bytes for each.
+-- The opcode bytes of each class, as lists: forbidden, ending a routine, jumping, returning, calling; and the length of each. One computed test over all 256 bytes for each.
 use mathlib.Core.Path.{_≡_, refl, subst⁻¹}
 use mathlib.Core.Bool.{Bool, true, false, not, _||_}
 use mathlib.Core.Logic.{_⊎_, inl, inr, _↔_}
@@ -15,6 +15,7 @@ use Rattle.opcodes.specs.Arithmetic.{holds}
 use Rattle.opcodes.specs.Instruction.{cNZ, cZ, cNC, cC, decode, lengthOf}
 use Rattle.routine.specs.Flow.{Flow, flowOf, flowAt, isForbidden, endsRoutine, jumpsWhere, returns}
 use Rattle.routine.specs.Rules.{JumpsTo}
+use Rattle.routine.specs.Trace.{calls}
 use Rattle.routine.proofs.Jumps.{target-passes, target-fails}
 
 -- the values below n, and that two functions with the same values are equal there
@@ -65,6 +66,15 @@ returnsByte b f =
     (if eqb b 0xd0 then holds cNC f else
     (if eqb b 0xd8 then holds cC f else false))))
 
+-- CALL; CALL NZ, Z, NC, C where the condition holds
+abbrev pub callsByte : ℕ → ℕ → Bool
+callsByte b f =
+    if eqb b 0xcd then true else
+    (if eqb b 0xc4 then holds cNZ f else
+    (if eqb b 0xcc then holds cZ f else
+    (if eqb b 0xd4 then holds cNC f else
+    (if eqb b 0xdc then holds cC f else false))))
+
 -- LD r16,n16; LD [n16],SP; JP; CALL; LD [n16],A and LD A,[n16]
 abbrev pub bytesOfThree : List ℕ
 bytesOfThree =
@@ -106,6 +116,10 @@ module _ (m : List ℕ) (a : ℕ) (is-byte : byteAt m a < 256) where
   pub returning-bytes : (f : ℕ) → returns (decode (byteAt m a)) f ≡ returnsByte (byteAt m a) f
   unfolding decode
   returning-bytes f = agree (λ b. returns (decode b) f) (λ b. returnsByte b f) 256 refl (byteAt m a) is-byte
+
+  pub calling-bytes : (f : ℕ) → calls (decode (byteAt m a)) f ≡ callsByte (byteAt m a) f
+  unfolding decode
+  calling-bytes f = agree (λ b. calls (decode b) f) (λ b. callsByte b f) 256 refl (byteAt m a) is-byte
 
   pub lengths : lengthOf (decode (byteAt m a)) ≡ lengthOfByte (byteAt m a)
   unfolding decode
