@@ -37,7 +37,7 @@ module _ {W : Type 0} (b : Bus W) where
     in-pieces [] s m = refl
     in-pieces (n ∷ l) s m = in-two n (total l) s m ∙ ap (unlessStopped (runFor b n s m)) (in-pieces l (runFor b n s m .cpu) (runFor b n s m .memory))
 
--- On plain memory, for every list of bytes or other numbers.
+-- On plain memory, from every state and on every list.
 
 pub run-in-two-plain : (i j : ℕ) (s : Cpu) (m : List ℕ) → runFor plain (i + j) s m ≡ (let r : RunAnswer (List ℕ) = runFor plain i s m in if stopsLast (r .last) then r else followedBy r (runFor plain j (r .cpu) (r .memory)))
 run-in-two-plain = in-two plain plain-sized
