@@ -1,7 +1,7 @@
 -- What the accesses of an instruction come to: each part leads where the definition leads, by what its callees ensure.
 use mathlib.Core.Path.{_≡_, ap, sym, _∙_}
 use mathlib.Core.List.{List}
-use Prim.Native.Nat.{ℕ, _+_, _*_, _%_}
+use Prim.Native.Nat.{ℕ}
 use Rattle.sm83.specs.declared.Cpu.{Cpu}
 use Rattle.sm83.specs.Basics.{next, back, word, highByte, lowByte}
 use Rattle.definition.specs.Bus.{Kind, Operand, Stack, read, write}

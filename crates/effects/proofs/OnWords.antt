@@ -1,5 +1,5 @@
 -- The operations on words, PUSH and POP: what the callees answer comes to what 000 does.
-use mathlib.Core.Path.{_≡_, refl, ap, _∙_}
+use mathlib.Core.Path.{_≡_, ap, _∙_}
 use mathlib.Core.List.{List}
 use Prim.Native.Nat.{ℕ, _+_, _%_}
 use Rattle.sm83.specs.declared.Cpu.{Cpu}

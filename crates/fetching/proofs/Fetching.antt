@@ -3,7 +3,6 @@ use mathlib.Core.Path.{_≡_, refl, ap, sym, _∙_}
 use mathlib.Core.Bool.{Bool, true, false, _||_}
 use mathlib.Core.List.{List}
 use Prim.Native.Nat.{ℕ, _<_}
-use lib.Dec.{eqb}
 use lib.ListN.{length}
 use borrow.Author.Tests.{ne-eqb}
 use Rattle.sm83.specs.declared.Cpu.{Cpu}
@@ -13,7 +12,7 @@ use Rattle.sm83.specs.Basics.{if_then_else_, next}
 use Rattle.definition.specs.Bus.{Fetch, Ask, read}
 use Rattle.sm83.specs.State.{pc, setPC, setIme, setLatch, setHalt}
 use Rattle.opcodes.specs.Instruction.{decode, decodeCB}
-use Rattle.definition.specs.Execution.{Does, _>>_, byteAtPC, prefixed, normal, execute}
+use Rattle.definition.specs.Execution.{_>>_, byteAtPC, prefixed, normal, execute}
 use Rattle.definition.specs.Step.{Ended, isBug, enabled, fetched, instruction}
 use Rattle.ranges.proofs.Ranges.{Bytes}
 use Rattle.instruction.specs.declared.Instruction.{Instruction}

@@ -7,7 +7,6 @@ use lib.Dec.{eqb}
 use Rattle.sm83.specs.declared.Cpu.{Cpu}
 use Rattle.outcome.specs.declared.Outcome.the-variants.{Normal, InfiniteLoop}
 use Rattle.sm83.specs.Basics.{if_then_else_}
-use Rattle.definition.specs.Bus.{Ask}
 use Rattle.definition.specs.Step.{Ended}
 use Rattle.sm83.specs.State.{pc, setPC}
 use Rattle.definition.specs.Execution.{Does, _>>=_, _>>_, nothing, change, goTo, wait, push, pop, return}

@@ -1,5 +1,4 @@
 -- A memory of bytes shows bytes, and a read leaves one.
-use mathlib.Core.List.{List}
 use Prim.Native.Nat.{ℕ, _<_}
 use Rattle.definition.specs.Bus.{Kind, byteAt}
 use Rattle.memory.specs.World.{World, shown, afterRead, accessing}

@@ -1,21 +1,21 @@
--- Which calls may be pending in a passed routine: none, since "every CALL" is forbidden. So no return is one that a call awaits.
+-- Which calls may be pending in a passed routine: none, since "every CALL" is forbidden. So no return is one that a call awaits, and their bytes ask for nothing.
 use mathlib.Core.Bool.{Bool, true, false, not}
 use mathlib.Core.List.{List, [], _∷_}
 use Prim.Native.Nat.{ℕ}
 use lib.Dec.{T}
 use Rattle.sm83.specs.declared.Cpu.{Cpu}
 use Rattle.sm83.specs.Basics.{if_then_else_}
-use Rattle.definition.specs.Bus.{Bus}
+use Rattle.definition.specs.Bus.{Bus, Access}
 use Rattle.sm83.specs.State.{flags}
 use Rattle.opcodes.specs.Instruction.{Jump, JP-n16, JP-HL, JR-e8, CALL-n16, RET, RETI, JP-cc-n16, JR-cc-e8, CALL-cc-n16, RET-cc, RST-vec}
 use Rattle.opcodes.specs.Instruction.{Instruction, does, goes, CB-prefix, HALT, STOP, EI, LD-B-B, ILLEGAL}
 use Rattle.routine.specs.Flow.{flowOf, isForbidden, returns}
-use Rattle.routine.specs.Trace.{calls, Pending, calledFrom, pendingAfter, takesReturn, returnsHome}
+use Rattle.routine.specs.Trace.{calls, Pending, calledFrom, pendingAfter, sparesPending, takesReturn, returnsHome, SamePending}
 
--- the screen lets no call through, so none is pending (02, request 7, says here what may be)
-abbrev pub MayBePending : List Pending → Type 0
-MayBePending [] = Unit {0}
-MayBePending (p ∷ l) = ⊥
+-- the calls that may be pending in a state, on a memory: the screen lets no call through, so none (02, request 7, says here which)
+abbrev pub MayBePending : {W : Type 0} → Bus W → List ℕ → Cpu → W → List Pending → Type 0
+MayBePending b screened s m [] = Unit {0}
+MayBePending b screened s m (p ∷ l) = ⊥
 
 jump-calls-not : (j : Jump) (a x y f : ℕ) → T (not (isForbidden (flowOf (goes j) a x y))) → T (not (calls (goes j) f))
 jump-calls-not JP-n16 a x y f h = tt
@@ -40,16 +40,31 @@ calls-not EI a x y f h = tt
 calls-not LD-B-B a x y f h = tt
 calls-not ILLEGAL a x y f h = tt
 
-none-added : (call return : Bool) (p : Pending) → T (not call) → MayBePending (if call then p ∷ [] else (if return then [] else []))
-none-added true return p h = h
-none-added false true p h = tt
-none-added false false p h = tt
+module _ {W : Type 0} (b : Bus W) (screened : List ℕ) where
+  none-added : (call return : Bool) (p : Pending) (t : Cpu) (m : W) → T (not call) → MayBePending b screened t m (if call then p ∷ [] else (if return then [] else []))
+  none-added true return p t m h = h
+  none-added false true p t m h = tt
+  none-added false false p t m h = tt
 
--- after an instruction that is not forbidden
-pub still-none : (i : Instruction) (a x y : ℕ) (s : Cpu) (l : List Pending) → T (not (isForbidden (flowOf i a x y))) → MayBePending l → MayBePending (pendingAfter i s l)
-still-none i a x y s [] h none = none-added (calls i (flags s)) (returns i (flags s)) (calledFrom s) (calls-not i a x y (flags s) h)
-still-none i a x y s (p ∷ l) h none = absurd none
+  -- after an instruction that is not forbidden, in the state and on the memory that it leaves
+  pub still-none : (i : Instruction) (a x y : ℕ) (s t : Cpu) (m m' : W) (l : List Pending) → T (not (isForbidden (flowOf i a x y))) → MayBePending b screened s m l → MayBePending b screened t m' (pendingAfter i s l)
+  still-none i a x y s t m m' [] h none = none-added (calls i (flags s)) (returns i (flags s)) (calledFrom s) t m' (calls-not i a x y (flags s) h)
+  still-none i a x y s t m m' (p ∷ l) h none = absurd none
 
-pub no-return : {W : Type 0} (b : Bus W) (s : Cpu) (m : W) (l : List Pending) → MayBePending l → T (returnsHome b s m l) → T (not (takesReturn b s m))
-no-return b s m [] none home = home
-no-return b s m (p ∷ l) none home = absurd none
+  -- after a host that spares their bytes
+  pub host-leaves : (s : Cpu) (m m' : W) (l : List Pending) → SamePending b l m m' → MayBePending b screened s m l → MayBePending b screened s m' l
+  host-leaves s m m' [] same none = tt
+  host-leaves s m m' (p ∷ l) same none = absurd none
+
+  pub no-return : (s : Cpu) (m : W) (l : List Pending) → MayBePending b screened s m l → T (returnsHome b s m l) → T (not (takesReturn b s m))
+  no-return s m [] none home = home
+  no-return s m (p ∷ l) none home = absurd none
+
+  -- nothing is asked of what is done to their bytes
+  pub none-spared : (s : Cpu) (m : W) (l : List Pending) → MayBePending b screened s m l → (accesses : List Access) → T (sparesPending l accesses)
+  none-spared s m [] none accesses = tt
+  none-spared s m (p ∷ l) none accesses = absurd none
+
+  pub none-same : (s : Cpu) (m : W) (l : List Pending) → MayBePending b screened s m l → (before after : W) → SamePending b l before after
+  none-same s m [] none before after = tt
+  none-same s m (p ∷ l) none before after = absurd none

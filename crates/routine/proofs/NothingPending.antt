@@ -1,16 +1,16 @@
 -- Demand 3's own words are enough: in a passed routine no call is ever pending, so that nothing is asked of a step or of a host but that it spares the routine, and of a step that it takes no return.
 use mathlib.Core.Path.{_≡_}
 use mathlib.Core.Bool.{Bool, true, false, not, _||_}
-use mathlib.Core.List.{List, [], _∷_}
+use mathlib.Core.List.{List}
 use Prim.Native.Nat.{ℕ, zero, suc, _≤_, _<_}
 use native.Mathlib.Omega.{arith}
 use lib.Dec.{T}
 use Rattle.sm83.specs.declared.Cpu.{Cpu}
-use Rattle.definition.specs.Bus.{Bus, Access}
-use Rattle.routine.specs.Trace.{spares, Pending, findsLast, sparesPending, takesReturn, returnsHome, SameWindow, SamePending, stateAt, stepAt, pendingAt, Stays, GoesOn, memoryAt, runStateAt, runAt, runMemory, runPendingAt, RunStaysToTheEnd, RunGoesOn}
-use Rattle.routine.proofs.NoCalls.{MayBePending}
+use Rattle.definition.specs.Bus.{Bus}
+use Rattle.routine.specs.Trace.{spares, Pending, findsLast, takesReturn, SameWindow, stateAt, stepAt, pendingAt, Stays, GoesOn, memoryAt, runStateAt, runAt, runMemory, runPendingAt, RunStaysToTheEnd, RunGoesOn}
+use Rattle.routine.proofs.NoCalls.{none-spared, none-same}
 use Rattle.routine.proofs.Covered.{Covered, Passed, host-covered}
-use Rattle.routine.proofs.Demand3.{CoveredAt, Follows, keeps-covered, alone-follows}
+use Rattle.routine.proofs.Demand3.{CoveredAt, Onward, leaves-covered, keeps-covered, alone-onward}
 use Rattle.routine.proofs.RunDemand3.{run-covered}
 
 module _ {W : Type 0} (b : Bus W) (first n : ℕ) where
@@ -35,30 +35,24 @@ or-second : (p q : Bool) → T q → T (p || q)
 or-second true q h = tt
 or-second false q h = h
 
-none-spared : (l : List Pending) → MayBePending l → (accesses : List Access) → T (sparesPending l accesses)
-none-spared [] none accesses = tt
-none-spared (p ∷ l) none accesses = absurd none
-
-none-same : {W : Type 0} (b : Bus W) (l : List Pending) → MayBePending l → (m m' : W) → SamePending b l m m'
-none-same b [] none m m' = tt
-none-same b (p ∷ l) none m m' = absurd none
-
 module _ {W : Type 0} {b : Bus W} {screened : List ℕ} {first n : ℕ} (passed : Passed b screened first n) where
   -- Step by step.
   module _ (mem : ℕ → W) (s : Cpu) (l : List Pending) where
-    home : (i : ℕ) → Inside b first n mem s i → T (returnsHome b (stateAt b mem s i) (mem i) (pendingAt b mem s l i))
-    home i h = or-second (findsLast (stateAt b mem s i) (pendingAt b mem s l i)) _ (h .no-return)
-
     stays : (i : ℕ) → CoveredAt passed mem s l i (mem i) → Inside b first n mem s i → Stays b first n mem s l i
     stays i c h =
-        record { returns-home = home i h; no-write = h .no-write; keeps-pending = none-spared (pendingAt b mem s l i) (c .calls-pending) (stepAt b mem s i .accesses) }
+        record {
+          returns-home = or-second (findsLast (stateAt b mem s i) (pendingAt b mem s l i)) _ (h .no-return);
+          no-write = h .no-write;
+          keeps-pending = none-spared b screened (stateAt b mem s i) (mem i) (pendingAt b mem s l i) (c .calls-pending) (stepAt b mem s i .accesses);
+        }
 
-    follows : (i : ℕ) → LeftAlone b first n mem s i → Follows passed mem s l i
-    follows i h =
-        (home i (h .inside), h .inside .no-write, λ c. host-covered c (h .host) (none-same b (pendingAt b mem s l (suc i)) (c .calls-pending) (stepAt b mem s i .memory) (mem (suc i))) (h .whole))
+    onward : (i : ℕ) → LeftAlone b first n mem s i → Onward passed mem s l i
+    onward i h c =
+        let left : CoveredAt passed mem s l (suc i) (stepAt b mem s i .memory) = leaves-covered passed mem s l i c (stays i c (h .inside)) in
+        host-covered left (h .host) (none-same b screened (stateAt b mem s (suc i)) (stepAt b mem s i .memory) (pendingAt b mem s l (suc i)) (left .calls-pending) (stepAt b mem s i .memory) (mem (suc i))) (h .whole)
 
     covered : Covered b screened first n s (mem 0) l → (k : ℕ) → ((i : ℕ) → i < k → LeftAlone b first n mem s i) → CoveredAt passed mem s l k (mem k)
-    covered begun k alone = keeps-covered passed mem s l begun k (λ i below. follows i (alone i below))
+    covered begun k alone = keeps-covered passed mem s l begun k (λ i below. onward i (alone i below))
 
     pub goes-on : Covered b screened first n s (mem 0) l → (k : ℕ) → ((i : ℕ) → i < k → LeftAlone b first n mem s i) → (i : ℕ) → i < k → GoesOn b first n mem s l i
     goes-on begun k alone i below =
@@ -67,7 +61,7 @@ module _ {W : Type 0} {b : Bus W} {screened : List ℕ} {first n : ℕ} (passed 
         record {
           stays = stays i (covered begun i (λ j earlier. alone j (omega arith))) (h .inside);
           host = h .host;
-          host-pending = none-same b (pendingAt b mem s l (suc i)) (after .calls-pending) (stepAt b mem s i .memory) (mem (suc i));
+          host-pending = none-same b screened (stateAt b mem s (suc i)) (mem (suc i)) (pendingAt b mem s l (suc i)) (after .calls-pending) (stepAt b mem s i .memory) (mem (suc i));
           whole = h .whole;
         }
 
@@ -76,7 +70,7 @@ module _ {W : Type 0} {b : Bus W} {screened : List ℕ} {first n : ℕ} (passed 
   unfolding memoryAt
   stays-within {s} {m} {l} begun i inside =
       let mem : ℕ → W = memoryAt b s m in
-      stays mem s l i (keeps-covered passed mem s l begun i (λ j earlier. let h : Inside b first n mem s j = inside j (omega arith) in (home mem s l j h, h .no-write, alone-follows passed s m l j))) (inside i (omega arith))
+      stays mem s l i (keeps-covered passed mem s l begun i (λ j earlier. alone-onward passed s m l j (λ c. stays mem s l j c (inside j (omega arith))))) (inside i (omega arith))
 
   -- Run after run.
   module _ (budget : ℕ → ℕ) (mem : ℕ → W) (s : Cpu) (l : List Pending) (begun : Covered b screened first n s (mem 0) l) where
@@ -90,7 +84,7 @@ module _ {W : Type 0} {b : Bus W} {screened : List ℕ} {first n : ℕ} (passed 
         let h : RunLeftAlone b first n budget mem s k = alone k (omega arith) in
         let before : _ = runs-covered-alone k (λ j earlier. alone j (omega arith)) in
         let after : _ = run-covered passed before (budget k) (run-stays k before h) in
-        host-covered after (h .host) (none-same b (runPendingAt b budget mem s l (suc k)) (after .calls-pending) (runAt b budget mem s k .memory) (mem (suc k))) (h .whole)
+        host-covered after (h .host) (none-same b screened (runStateAt b budget mem s (suc k)) (runAt b budget mem s k .memory) (runPendingAt b budget mem s l (suc k)) (after .calls-pending) (runAt b budget mem s k .memory) (mem (suc k))) (h .whole)
 
     pub runs-go-on : (k : ℕ) → ((j : ℕ) → j < k → RunLeftAlone b first n budget mem s j) → (j : ℕ) → j < k → RunGoesOn b first n budget mem s l j
     runs-go-on k alone j below =
@@ -100,6 +94,6 @@ module _ {W : Type 0} {b : Bus W} {screened : List ℕ} {first n : ℕ} (passed 
         record {
           stays = run-stays j before h;
           host = h .host;
-          host-pending = none-same b (runPendingAt b budget mem s l (suc j)) (after .calls-pending) (runAt b budget mem s j .memory) (mem (suc j));
+          host-pending = none-same b screened (runStateAt b budget mem s (suc j)) (mem (suc j)) (runPendingAt b budget mem s l (suc j)) (after .calls-pending) (runAt b budget mem s j .memory) (mem (suc j));
           whole = h .whole;
         }

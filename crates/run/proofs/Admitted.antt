@@ -1,19 +1,18 @@
 -- "Step and run test 1, then 2": what the two tests come to; and a step is a run with a budget of one.
-use mathlib.Core.Path.{_≡_, refl, ap, sym, _∙_}
+use mathlib.Core.Path.{_≡_, refl, ap, sym}
 use mathlib.Core.Bool.{Bool, true, false}
 use mathlib.Core.List.{List}
-use Prim.Native.Nat.{ℕ, _+_, _%_}
+use Prim.Native.Nat.{ℕ, _%_}
 use native.Mathlib.Omega.{arith}
 use lib.Dec.{eqb}
 use lib.ListN.{length}
 use Rattle.sm83.specs.declared.Cpu.{Cpu}
-use Rattle.outcome.specs.declared.Refusal.{Refusal}
 use Rattle.outcome.specs.declared.Refusal.the-variants.{MemoryLength, LowBitsOfF}
 use Rattle.outcome.specs.declared.LastOutcome.the-variants.{NothingRun, Last}
 use Rattle.sm83.specs.Basics.{if_then_else_}
 use Rattle.definition.specs.Bus.{Bus, Ran, mcycles}
 use Rattle.sm83.specs.State.{flags}
-use Rattle.definition.specs.Step.{Ended, Admission, accepted, refusedAs, admission, admitted, stepOn}
+use Rattle.definition.specs.Step.{Ended, Admission, accepted, refusedAs, admission, stepOn}
 use Rattle.definition.specs.Run.{RunAnswer, stopsRun, thenRest, repeated, notRun, admittedRun, runFor}
 use Rattle.run.proofs.Behind.{Behind}
 
