@@ -61,7 +61,7 @@ carry-is-bit f = of (flagC f)
     of true = omega arith
     of false = omega arith
 
--- "DAA after ADD/ADC on packed decimal gives the sum modulo 100, C the hundreds digit", whatever F held
+-- "DAA straight after ADD or ADC on packed decimal gives the sum modulo 100, with C as the hundreds digit", whatever F held
 pub decimal-ADD : (x y f : ℕ) → x < 100 → y < 100 → Shows (adjusted (aluOp ADD (packed x) (packed y) f)) (x + y + 0) ((x + y + 0) / 100)
 decimal-ADD x y f hx hy = sum-adjusted 0 x y (omega arith) hx hy
 

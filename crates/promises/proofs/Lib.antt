@@ -1,3 +1,4 @@
--- Demand 3 over whatever satisfies the public contracts, and determinacy.
+-- Demand 3, and the run in pieces, over whatever satisfies the public contracts as the source states them.
+pub mod Calls
 pub mod CodeKeepsItsPlace
-pub mod OneAnswer
+pub mod LongRuns

@@ -1,4 +1,4 @@
--- "The step never changes the length of memory, keeps every register in its range and F's low bits 0", and so does the run.
+-- The step never changes the length of memory, and keeps every register in its range and F's low bits 0; and so does the run.
 -- The step's tree does so where memory answers bytes; one induction over the tree runs it on any memory that does.
 use mathlib.Core.Path.{_≡_, refl, sym, subst, _∙_}
 use mathlib.Core.Bool.{Bool, true, false}
@@ -102,7 +102,7 @@ module _ {W : Type 0} (b : Bus W) (Good : W → Type 0) (law : Lawful b Good) wh
   pub run-ranges : (budget : ℕ) (s : Cpu) (m : W) → InRange Good s m → InRange Good (runFor b budget s m .cpu) (runFor b budget s m .memory) × LastSays OutcomeRanged (runFor b budget s m .last)
   run-ranges budget s m h = run-keeps b (InRange Good) OutcomeRanged step-ranges budget s m (λ r e. tt) h
 
--- Plain memory: "never changes the length of memory" for every state and every list; every byte stays a byte.
+-- Plain memory: its length stays, for every state and every list; every byte stays a byte.
 
 abbrev pub Bytes : List ℕ → Type 0
 Bytes m = (a : ℕ) → byteAt m a < 256

@@ -17,7 +17,7 @@ use Rattle.routine.proofs.Keeper.{Keeper, Came, shown}
 use Rattle.routine.proofs.Inside.{Stepped, step-ends, not-before, within}
 use Rattle.routine.proofs.NoCalls.{MayBePending, still-none, host-leaves, no-return}
 
--- "started at any marked address as the document says": quiet, at a start, in a memory of 65,536 bytes that shows the screened window
+-- "Start a passed routine at any marked address, in a state that a step accepts, awake, with interrupts off and none being enabled": quiet, at a start, in a memory of 65,536 bytes that shows the screened window
 pub record Covered {W : Type 0} (b : Bus W) (screened : List ℕ) (first n : ℕ) (s : Cpu) (m : W) (l : List Pending) : Type 0 where
   pub is-quiet : Quiet s
   pub at-start : Start screened first (first + n) (pc s)

@@ -1,4 +1,4 @@
--- Demand 3: "a passed routine, started at any marked address as the document says, keeps every PC at a marked instruction start, and no step is refused, halts, stops or takes an interrupt, until a return is taken or a step writes into the routine."
+-- Demand 3: "until a return is taken or a step writes into the routine, every PC is a marked instruction start, and no step is refused, halts, stops or takes an interrupt".
 -- For any number of steps, on any kind of memory that keeps the routine, with a host that may change all else between two steps.
 use mathlib.Core.Path.{subst⁻¹}
 use mathlib.Core.List.{List}

@@ -1,4 +1,5 @@
--- Demand 3 in the document's own words: of the screen's verdict and of the marks that it leaves. "a passed routine, started at any marked address as the document says, keeps every PC at a marked instruction start, and no step is refused, halts, stops or takes an interrupt, until a return is taken or a step writes into the routine."
+-- Demand 3 in its own words, of the screen's verdict and of the marks that it leaves. "Start a passed routine at any marked address, in a state that a step accepts, awake, with interrupts off and none being enabled.
+-- Then, until a return is taken or a step writes into the routine, every PC is a marked instruction start, and no step is refused, halts, stops or takes an interrupt, provided nothing outside the processor changes the routine or the state."
 use mathlib.Core.Path.{_≡_, subst, subst⁻¹}
 use mathlib.Core.List.{List, []}
 use Prim.Native.Nat.{ℕ, suc, _+_, _≤_, _<_}
@@ -47,7 +48,7 @@ module _ (m : List ℕ) (first last : ℕ) (lent : List ℕ) (passes : screen m 
   passed : Passed plain m first n
   passed = record { rules = rules; low = low; keeper = plain-keeps first n }
 
-  -- "started at any marked address as the document says": where the window stands as it was screened, and no call is pending
+  -- "Start a passed routine at any marked address": where the window stands as it was screened, and no call is pending
   started : {s : Cpu} {m' : List ℕ} → length m' ≡ 65536 → SameWindow plain first n m m' → Quiet s → Marked (pc s) → Covered plain m first n s m' []
   started {s} whole same quiet marked = record { is-quiet = quiet; at-start = starts (pc s) marked; shows = same; whole = whole; calls-pending = tt }
 
