@@ -2,6 +2,7 @@
 use mathlib.Core.Path.{_≡_, refl, ap, sym, subst, subst⁻¹, _∙_}
 use mathlib.Core.List.{List, []}
 use Prim.Native.Nat.{ℕ, zero, suc, _<_}
+use native.Mathlib.Omega.{arith}
 use lib.Dec.{T}
 use lib.ListN.{length}
 use Rattle.sm83.specs.declared.Cpu.{Cpu}
@@ -14,6 +15,7 @@ use Rattle.routine.specs.Screen.{isMarked, screen}
 use Rattle.routine.specs.Trace.{Quiet, Fine, isFine, isFineLast, takesNone, SameWindow, stateAt, stepAt, memoryAt, GoesOn, runStateAt, RunGoesOn, RunStaysToTheLast, RunStaysToTheEnd}
 use Rattle.routine.proofs.Before.{window}
 use Rattle.routine.proofs.PassedRoutine.{demand-3, demand-3-runs, demand-3-runs-end}
+use Rattle.promises.proofs.Between.{stopped-in-between}
 use Rattle.promises.proofs.Calls.{ScreenCall, screened, firstOf, lastOf, lentMarks, marksLeft, verdict-is, marks-are, StepCall, stateGiven, memoryGiven, step-answers, RunCall, stateRun, memoryRun, budgetOf, answered, run-answers}
 
 -- The window was screened and passes; its marks are those that the call left.
@@ -122,6 +124,16 @@ module _ (call : ScreenCall) (passes : call .verdict ≡ Passes) (address : last
         let kept : Kept k (runFor plain (budget k) (start k) (memory k)) = subst⁻¹ (λ (s : Cpu). KeptFrom k s (runFor plain (budget k) s (memory k))) (same-starts k) end in
         let it : Kept k (answered (run k)) = subst⁻¹ (Kept k) (run-answers (run k)) kept in
         ((λ i below. let here : _ = it .0 i below in (in-the-marks (pc (within k i)) (here .0), here .1, here .2)), it .1)
+
+    -- the same PCs as the code answers them: what a call with a smaller budget says from where run k began
+    pub seen-in-between : length (memory 0) ≡ 65536 → Screened (memory 0) → Quiet (start 0) → Marked (pc (start 0))
+        → (k : ℕ) → ((j : ℕ) → j < k → RunGoesOn plain first n budget memory (start 0) [] j) → RunStaysToTheLast plain first n budget memory (start 0) [] k
+        → (d : RunCall) → stateRun d ≡ start k → memoryRun d ≡ memory k → budgetOf d < run k .ran .steps
+        → Marked (pc (d .ran .cpu)) × Quiet (d .ran .cpu)
+    seen-in-between whole same quiet marked k goes stays d same-state same-memory fewer =
+        let it : _ = runs-keep-the-place whole same quiet marked k goes stays .0 (budgetOf d) fewer in
+        let there : d .ran .cpu ≡ within k (budgetOf d) = stopped-in-between (run k) d same-state same-memory (omega arith) .1 in
+        (subst⁻¹ (λ (s : Cpu). Marked (pc s)) there (it .0), subst⁻¹ Quiet there (it .1))
 
     -- and where run k ends, if its last step stays too
     pub runs-end-in-place : length (memory 0) ≡ 65536 → Screened (memory 0) → Quiet (start 0) → Marked (pc (start 0))

@@ -1,1 +1,1 @@
-// The demands over the code's own answers, and determinacy. No code: the theorems stand in proofs/.
+// The demands, and a run in pieces, over the code's own answers. No code: the theorems stand in proofs/.
