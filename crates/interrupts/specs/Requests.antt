@@ -1,4 +1,4 @@
--- The bytes at FF0F and FFFF, for this crate alone: above it a peek and the push that takes are what the bus says of them.
+-- The bytes at FF0F and FFFF as they lie there, for this crate and for what looks at stored bytes. The processor knows a peek and the push that takes by what the bus says of them.
 use mathlib.Core.Path.{_≡_}
 use mathlib.Core.List.{List}
 use Prim.Native.Nat.{ℕ, _%_}

@@ -48,8 +48,8 @@ fn lowest(x: u8) -> u8
     }
 }
 
-// The lowest bit that is requested and enabled.
-fn lowest_pending(mem: &mut [u8]) -> u8
+// The lowest bit that is requested and enabled, of the bytes as they lie there; the processor peeks.
+pub fn lowest_pending(mem: &mut [u8]) -> u8
     requires { ⌜ length (now mem) ≡ 65536 ⌝ }
     ensures { λ r. ⌜ Sees (now (mem .entry)) r (now (mem .exit)) ⌝ }
 {

@@ -9,7 +9,7 @@ use crate::layout::listed;
 use crate::layout::memory_length;
 use crate::layout::wide;
 use fields::bytes::word_at;
-use interrupts::peek_next_interrupt;
+use interrupts::lowest_pending;
 use sm83::Addr;
 
 // Where the counts stand: opcodes at 0 to 511 (after CB from 256 on), then 256 places for each of the others.
@@ -47,7 +47,7 @@ fn opcode(state: &[u8], mem: &mut [u8]) -> usize
     requires { ⌜ (24 ≤ length (now state)) × (length (now mem) ≡ 65536) ⌝ }
     ensures { λ r. ⌜ r ≡ opcodeOf (now (state .entry)) (now (mem .entry)) ⌝ }
 {
-    let waiting = peek_next_interrupt(mem) < 5;
+    let waiting = lowest_pending(mem) < 5;
     let fetched = fetches(state, waiting);
     if fetched {
         let pc = word_at(state, 10);
