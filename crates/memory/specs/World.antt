@@ -68,7 +68,7 @@ leads (writeAndTake a v f) w = leads (f (asked (afterWrite Stack w a v))) (after
 -- What an access does, as contracts state it: whatever comes next, the definition's node leads where the rest leads from the port and the bytes that the code answers.
 
 -- with a value
-pub record Answers {A : Type 0} (node : (A → Ask Ended) → Ask Ended) (port : Port) (m : List ℕ) (v : A) (port' : Port) (m' : List ℕ) : Type 0 where
+pub record Gives {A : Type 0} (node : (A → Ask Ended) → Ask Ended) (port : Port) (m : List ℕ) (v : A) (port' : Port) (m' : List ℕ) : Type 0 where
   pub there : (rest : A → Ask Ended) → leads (node rest) (world port m) ≡ leads (rest v) (world port' m')
   pub whole : length m' ≡ 65536
 
@@ -83,7 +83,7 @@ pub record Looks {A : Type 0} (node : (A → Ask Ended) → Ask Ended) (m : List
   pub whole : length m' ≡ 65536
 
 abbrev pub Reads : Kind → ℕ → Port → List ℕ → ℕ → Port → List ℕ → Type 0
-Reads k a = Answers (read k a)
+Reads k a = Gives (read k a)
 
 abbrev pub Writes : Kind → ℕ → ℕ → Port → List ℕ → Port → List ℕ → Type 0
 Writes k a v = Leaves (write k a v)
@@ -96,7 +96,7 @@ Peeks = Looks peek
 
 -- the push that takes an interrupt
 abbrev pub Takes : ℕ → ℕ → Port → List ℕ → ℕ → Port → List ℕ → Type 0
-Takes a v = Answers (writeAndTake a v)
+Takes a v = Gives (writeAndTake a v)
 
 -- Which of the definition's memories stands behind it: plain memory, the same bytes. (Proved of every tree in proofs/Following; the run's loop names it by this name alone.)
 abbrev pub behind : Bus (List ℕ)
