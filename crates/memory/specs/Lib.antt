@@ -1,2 +1,3 @@
--- What the code's port and bytes are after each access.
+-- The bus, shut; and what this crate alone knows of the bytes that say which interrupts wait.
 pub mod World
+pub mod Requests

@@ -1,10 +1,13 @@
-// Plain memory: the 65,536 bytes that the caller lends, and a port that counts the M-cycles. The bus is shut: a read, a
-// write and an idle access each say where the definition's node leads, and nothing else of port or bytes.
+// The bus: plain memory, the 65,536 bytes that the caller lends, and a port that counts the M-cycles. It is shut: a read,
+// a write, an idle access, a peek and the push that takes an interrupt each say where the definition's node leads, and
+// nothing else of port or bytes.
 ghost use mathlib.Core.Path.{_≡_};
 ghost use lib.ListN.{length};
 ghost use Rattle.memory.specs.World.{kindOf, counted, Reads, Writes, Idles};
 use sm83::Addr;
 use sm83::MCycles;
+
+pub mod interrupts;
 
 // What an access is for, as its caller says. Plain memory does the same for each.
 pub enum AccessKind {

@@ -1,8 +1,9 @@
 -- Points 1 to 4: what the callees answer comes to the definition's step, one law for each way through it.
 use mathlib.Core.Path.{_≡_, refl, ap, sym, _∙_}
 use mathlib.Core.Bool.{Bool, true, false}
-use mathlib.Core.List.{List}
-use Prim.Native.Nat.{ℕ}
+use mathlib.Core.List.{List, [], _∷_}
+use Prim.Native.Nat.{ℕ, _≤_}
+use lib.ListN.{List·getD-eq-default}
 use Rattle.sm83.specs.declared.Cpu.{Cpu}
 use Rattle.sm83.specs.declared.HaltMode.the-variants.{NotHalting}
 use Rattle.outcome.specs.declared.Outcome.{Outcome}
@@ -24,6 +25,10 @@ so b p q s k w e = ap (λ (d : Does Ended Outcome). leads (d s k) w) (if-so p q 
 
 not-so : (b : Bool) (p q : Does Ended Outcome) (s : Cpu) (k : Outcome → Cpu → Ask Ended) (w : World) → b ≡ false → leads ((if b then p else q) s k) w ≡ leads (q s k) w
 not-so b p q s k w e = ap (λ (d : Does Ended Outcome). leads (d s k) w) (if-not p q e)
+
+-- "If none is left, PC is 0"
+pub nowhere : (i : ℕ) → 5 ≤ i → 0 ≡ vector i
+nowhere i h = sym (List·getD-eq-default (0x40 ∷ 0x48 ∷ 0x50 ∷ 0x58 ∷ 0x60 ∷ []) 0 h)
 
 -- 4. "SP less 1, write PC's high byte, peek again and take .."
 pub dispatches : (s : Cpu) (port p q t u v : Port) (m m1 m2 m3 m4 m5 : List ℕ) (first second i to : ℕ) (o : Outcome) →

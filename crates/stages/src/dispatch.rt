@@ -1,19 +1,31 @@
 // Point 4: an interrupt is taken.
 ghost use mathlib.Core.Path.{_≡_};
 ghost use lib.ListN.{length};
-ghost use Rattle.definition.specs.Step.{dispatch};
+ghost use Rattle.definition.specs.Step.{vector, dispatch};
 ghost use Rattle.memory.specs.World.{Looks};
 ghost use Rattle.accesses.specs.Leads.{Runs};
 ghost use Rattle.stages.specs.Stages.{called, dispatched};
 use crate::Executed;
-use interrupts::peek_next_interrupt;
-use interrupts::vector;
-use interrupts::write_and_take;
 use memory::AccessKind;
 use memory::Port;
+use memory::interrupts::peek_next_interrupt;
+use memory::interrupts::write_and_take;
 use outcome::Outcome;
 use sm83::Addr;
 use sm83::Cpu;
+
+const INTERRUPTS_VECTOR: [u16; 5] = [0x40, 0x48, 0x50, 0x58, 0x60];
+
+// Where an interrupt goes; 0 if there is none.
+pub fn vector(interrupt: u8) -> u16
+    ensures { λ r. ⌜ r ≡ vector interrupt ⌝ }
+{
+    if interrupt < 5 {
+        INTERRUPTS_VECTOR[interrupt as usize]
+    } else {
+        0
+    }
+}
 
 // Which interrupt runs, or that it was cancelled.
 pub fn running(interrupt: u8) -> Outcome

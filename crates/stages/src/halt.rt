@@ -6,8 +6,8 @@ ghost use Rattle.definition.specs.Step.{isBug, isAsleep};
 ghost use Rattle.stages.specs.Stages.{Wakes};
 use crate::Woken;
 use accesses::states::with_halt;
-use interrupts::peek_next_interrupt;
 use memory::Port;
+use memory::interrupts::peek_next_interrupt;
 use sm83::Cpu;
 use sm83::HaltMode;
 

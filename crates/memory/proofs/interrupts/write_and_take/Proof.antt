@@ -1,8 +1,8 @@
 -- Shows the push that takes: the write, then the take.
 use borrow.Author.Needs.{needs}
 use Rattle.memory.proofs.Accesses.{has-taken}
-use Rattle.interrupts.proofs.write_and_take.Statement.{statement}
-use Rattle.interrupts.proofs.write_and_take.Tie as tie
+use Rattle.memory.proofs.interrupts.write_and_take.Statement.{statement}
+use Rattle.memory.proofs.interrupts.write_and_take.Tie as tie
 
 returns : tie.Need-returns
 returns c =

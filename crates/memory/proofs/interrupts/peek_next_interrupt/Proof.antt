@@ -1,8 +1,8 @@
 -- Shows what peeking sees.
 use borrow.Author.Needs.{needs}
 use Rattle.memory.proofs.Accesses.{has-peeked}
-use Rattle.interrupts.proofs.peek_next_interrupt.Statement.{statement}
-use Rattle.interrupts.proofs.peek_next_interrupt.Tie as tie
+use Rattle.memory.proofs.interrupts.peek_next_interrupt.Statement.{statement}
+use Rattle.memory.proofs.interrupts.peek_next_interrupt.Tie as tie
 
 returns : tie.Need-returns
 returns c = let look = c .before .before .lowest-pending .ensures in has-peeked _ _ _ (look .seen) (look .same) (look .whole)

@@ -1,9 +1,9 @@
 -- Shows taking: one where there is one, by the laws of taking.
 use borrow.Author.Needs.{needs}
 use mathlib.Core.Path.{_∙_}
-use Rattle.interrupts.proofs.Taking.{one-taken, none-taken}
-use Rattle.interrupts.proofs.take_next_interrupt.Statement.{statement}
-use Rattle.interrupts.proofs.take_next_interrupt.Tie as tie
+use Rattle.memory.proofs.Taking.{one-taken, none-taken}
+use Rattle.memory.proofs.interrupts.take_next_interrupt.Statement.{statement}
+use Rattle.memory.proofs.interrupts.take_next_interrupt.Tie as tie
 
 one : tie.Need-returns
 one c =

@@ -1,29 +1,15 @@
-// Interrupts on plain memory: 0 to 4, and 5 for none. Peeking at one and taking it cost nothing.
+// Interrupts on plain memory: 0 to 4, and 5 for none. Peeking at one costs nothing; taking it is part of the push that does.
 ghost use mathlib.Core.Path.{_≡_};
 ghost use lib.ListN.{length};
 ghost use Rattle.definition.specs.Bus.{lowest};
-ghost use Rattle.definition.specs.Step.{vector};
 ghost use Rattle.memory.specs.World.{Peeks, Takes};
-ghost use Rattle.interrupts.specs.Requests.{Sees, Clears, SeesAndTakes};
+ghost use Rattle.memory.specs.Requests.{Sees, Clears, SeesAndTakes};
+use crate::AccessKind;
+use crate::Got;
+use crate::Port;
+use crate::write;
 use bitwise::bits::res;
-use memory::AccessKind;
-use memory::Got;
-use memory::Port;
-use memory::write;
 use sm83::Addr;
-
-const INTERRUPTS_VECTOR: [u16; 5] = [0x40, 0x48, 0x50, 0x58, 0x60];
-
-// Where an interrupt goes; 0 if there is none.
-pub fn vector(interrupt: u8) -> u16
-    ensures { λ r. ⌜ r ≡ vector interrupt ⌝ }
-{
-    if interrupt < 5 {
-        INTERRUPTS_VECTOR[interrupt as usize]
-    } else {
-        0
-    }
-}
 
 fn lowest(x: u8) -> u8
     ensures { λ r. ⌜ r ≡ lowest x ⌝ }

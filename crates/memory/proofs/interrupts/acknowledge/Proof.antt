@@ -1,7 +1,7 @@
 -- Shows that one bit alone is cleared.
 use borrow.Author.Needs.{needs}
-use Rattle.interrupts.proofs.acknowledge.Statement.{statement}
-use Rattle.interrupts.proofs.acknowledge.Tie as tie
+use Rattle.memory.proofs.interrupts.acknowledge.Statement.{statement}
+use Rattle.memory.proofs.interrupts.acknowledge.Tie as tie
 
 returns : tie.Need-returns
 returns c = record { left = simp (c .res .ensures); whole = search needs }

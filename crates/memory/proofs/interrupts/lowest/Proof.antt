@@ -1,8 +1,8 @@
 -- Shows that the lowest set bit wins: bit by bit.
 use borrow.Author.Needs.{needs}
 use native.Mathlib.Nat.{div-one}
-use Rattle.interrupts.proofs.lowest.Statement.{statement}
-use Rattle.interrupts.proofs.lowest.Tie as tie
+use Rattle.memory.proofs.interrupts.lowest.Statement.{statement}
+use Rattle.memory.proofs.interrupts.lowest.Tie as tie
 
 returns : tie.Need-returns
 returns c = simp (div-one, c .if1 .taken)

@@ -1,15 +1,14 @@
--- Taking an interrupt: what is left of the bytes where one is pending, and where none is; and where none goes.
-use mathlib.Core.Bool.{Bool, true, false}
-use mathlib.Core.Path.{_≡_, refl, ap, sym, _∙_}
-use mathlib.Core.List.{List, [], _∷_}
-use Prim.Native.Nat.{ℕ, _%_, _<_, _≤_}
+-- Taking an interrupt: what is left of the bytes where one is pending, and where none is.
+use mathlib.Core.Bool.{true, false}
+use mathlib.Core.Path.{_≡_}
+use mathlib.Core.List.{List}
+use Prim.Native.Nat.{ℕ, _%_, _<_}
 use native.Mathlib.Omega.{arith}
 use lib.Dec.{ltb}
-use lib.ListN.{set, List·getD-eq-default}
+use lib.ListN.{set}
 use borrow.Author.Tests.{ltb-true}
 use Rattle.sm83.specs.Basics.{if_then_else_, cleared}
 use Rattle.definition.specs.Bus.{byteAt, pending, taken}
-use Rattle.definition.specs.Step.{vector}
 
 small : (i : ℕ) → ltb i 5 ≡ true → i % 8 ≡ i
 small i e = let h : i < 5 = ltb-true i 5 e in omega arith
@@ -21,6 +20,3 @@ one-taken m m' i e some e' = simp (e', small i some, ← e, some)
 pub none-taken : (m : List ℕ) (i : ℕ) → i ≡ pending m → ltb i 5 ≡ false → m ≡ taken m
 unfolding taken
 none-taken m i e none = simp (← e, none)
-
-pub nowhere : (i : ℕ) → 5 ≤ i → 0 ≡ vector i
-nowhere i h = sym (List·getD-eq-default (0x40 ∷ 0x48 ∷ 0x50 ∷ 0x58 ∷ 0x60 ∷ []) 0 h)

@@ -1,8 +1,8 @@
 -- Shows the lowest bit that is requested and enabled.
 use borrow.Author.Needs.{needs}
 use Rattle.definition.specs.Bus.{pending}
-use Rattle.interrupts.proofs.lowest_pending.Statement.{statement}
-use Rattle.interrupts.proofs.lowest_pending.Tie as tie
+use Rattle.memory.proofs.interrupts.lowest_pending.Statement.{statement}
+use Rattle.memory.proofs.interrupts.lowest_pending.Tie as tie
 
 returns : tie.Need-returns
 unfolding pending

@@ -1,8 +1,8 @@
 -- Shows where an interrupt goes: past the five there is none.
 use borrow.Author.Needs.{needs}
-use Rattle.interrupts.proofs.Taking.{nowhere}
-use Rattle.interrupts.proofs.vector.Statement.{statement}
-use Rattle.interrupts.proofs.vector.Tie as tie
+use Rattle.stages.proofs.Stepping.{nowhere}
+use Rattle.stages.proofs.dispatch.vector.Statement.{statement}
+use Rattle.stages.proofs.dispatch.vector.Tie as tie
 
 none : tie.Need-returns-2
 none c = nowhere _ (c .if1 .left)

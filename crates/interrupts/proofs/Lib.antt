@@ -1,2 +1,0 @@
--- What the callees of taking an interrupt ensure, put together.
-pub mod Taking
