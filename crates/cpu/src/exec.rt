@@ -1,7 +1,6 @@
 // One instruction: its operand, what it does, where its result goes.
-ghost use mathlib.Core.Path.{_≡_};
 ghost use lib.Dec.{T};
-ghost use lib.ListN.{length};
+ghost use Rattle.memory.specs.World.{Given};
 ghost use Rattle.accesses.specs.Leads.{Runs};
 ghost use Rattle.mirror.specs.Mirror.{execRow};
 ghost use Rattle.mirror.specs.Runnable.{runnable};
@@ -22,8 +21,7 @@ pub fn exec_instruction(
     at: Addr,
     mem: &mut [u8],
 ) -> Executed
-    requires { ⌜ length (now mem) ≡ 65536 ⌝ }
-    requires { ⌜ T (runnable instruction) ⌝ }
+    requires { ⌜ Given (now mem) (T (runnable instruction)) ⌝ }
     ensures { λ r. ⌜ Runs (execRow instruction (at .0)) cpu port (now (mem .entry)) (r .outcome) (r .cpu) (r .port) (now (mem .exit)) ⌝ }
 {
     let src = instruction.src;

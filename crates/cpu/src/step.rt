@@ -1,10 +1,9 @@
 // One step: `next_instruction`, stage by stage in the order of the Rust. The two tables are lent.
-ghost use mathlib.Core.Path.{_≡_};
-ghost use mathlib.Core.Bool.{false};
-ghost use lib.ListN.{length};
 ghost use Rattle.definition.specs.Step.{instruction, awake, step};
-ghost use Rattle.instruction.specs.Entry.{Plain, Prefixed};
+ghost use Rattle.instruction.specs.Entry.{Tables};
+ghost use Rattle.memory.specs.World.{Given};
 ghost use Rattle.accesses.specs.Leads.{Runs};
+ghost use Rattle.stages.specs.Stages.{Going};
 use crate::exec::exec_instruction;
 use fetching::fetch::fetch_entry;
 use instruction::Instruction;
@@ -24,9 +23,7 @@ fn run_one(
     prefixed: &[u32; 256],
     mem: &mut [u8],
 ) -> Executed
-    requires { ⌜ length (now mem) ≡ 65536 ⌝ }
-    requires { ⌜ Plain (now plain) ⌝ }
-    requires { ⌜ Prefixed (now prefixed) ⌝ }
+    requires { ⌜ Given (now mem) (Tables (now plain) (now prefixed)) ⌝ }
     ensures { λ r. ⌜ Runs instruction cpu port (now (mem .entry)) (r .outcome) (r .cpu) (r .port) (now (mem .exit)) ⌝ }
 {
     let x = fetch_entry(cpu, port, plain, prefixed, mem);
@@ -45,9 +42,7 @@ fn awake(
     prefixed: &[u32; 256],
     mem: &mut [u8],
 ) -> Executed
-    requires { ⌜ length (now mem) ≡ 65536 ⌝ }
-    requires { ⌜ Plain (now plain) ⌝ }
-    requires { ⌜ Prefixed (now prefixed) ⌝ }
+    requires { ⌜ Given (now mem) (Tables (now plain) (now prefixed)) ⌝ }
     ensures { λ r. ⌜ Runs awake cpu port (now (mem .entry)) (r .outcome) (r .cpu) (r .port) (now (mem .exit)) ⌝ }
 {
     let called = is_called(cpu.ime, mem);
@@ -66,10 +61,7 @@ fn running(
     prefixed: &[u32; 256],
     mem: &mut [u8],
 ) -> Executed
-    requires { ⌜ length (now mem) ≡ 65536 ⌝ }
-    requires { ⌜ Plain (now plain) ⌝ }
-    requires { ⌜ Prefixed (now prefixed) ⌝ }
-    requires { ⌜ (cpu .stopped ≡ false) × (cpu .hdma ≡ false) ⌝ }
+    requires { ⌜ Given (now mem) (Going cpu (now plain) (now prefixed)) ⌝ }
     ensures { λ r. ⌜ Runs step cpu port (now (mem .entry)) (r .outcome) (r .cpu) (r .port) (now (mem .exit)) ⌝ }
 {
     let w = wake(cpu, port, mem);
@@ -95,9 +87,7 @@ pub fn next_instruction(
     prefixed: &[u32; 256],
     mem: &mut [u8],
 ) -> Executed
-    requires { ⌜ length (now mem) ≡ 65536 ⌝ }
-    requires { ⌜ Plain (now plain) ⌝ }
-    requires { ⌜ Prefixed (now prefixed) ⌝ }
+    requires { ⌜ Given (now mem) (Tables (now plain) (now prefixed)) ⌝ }
     ensures { λ r. ⌜ Runs step cpu port (now (mem .entry)) (r .outcome) (r .cpu) (r .port) (now (mem .exit)) ⌝ }
 {
     let stopped = cpu.stopped;

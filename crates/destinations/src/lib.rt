@@ -5,6 +5,7 @@ ghost use Prim.Native.Nat.{ℕ};
 ghost use lib.Dec.{T, eqb};
 ghost use lib.ListN.{length};
 ghost use Rattle.sm83.specs.State.{onRegisters};
+ghost use Rattle.memory.specs.World.{Given};
 ghost use Rattle.accesses.specs.Leads.{Leads, Runs};
 ghost use Rattle.mirror.specs.Operands.{writeOperand};
 ghost use Rattle.operands.specs.Operand.{writable};
@@ -84,8 +85,7 @@ fn write_byte(cpu: Cpu, port: Port, ty: OperandType, value: u16) -> Both
 }
 
 pub fn write_operand(cpu: Cpu, port: Port, ty: OperandType, value: u16, mem: &mut [u8]) -> Both
-    requires { ⌜ length (now mem) ≡ 65536 ⌝ }
-    requires { ⌜ T (writable ty) ⌝ }
+    requires { ⌜ Given (now mem) (T (writable ty)) ⌝ }
     ensures { λ r. ⌜ Runs (writeOperand ty value) cpu port (now (mem .entry)) tt (r .cpu) (r .port) (now (mem .exit)) ⌝ }
 {
     let mut regs = cpu.registers;

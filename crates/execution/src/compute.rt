@@ -1,11 +1,10 @@
 // What an instruction does between its operands: the match of `exec_instruction`.
-ghost use mathlib.Core.Path.{_≡_};
-ghost use lib.Dec.{T, leb};
-ghost use lib.ListN.{length};
+ghost use lib.Dec.{T};
+ghost use Rattle.memory.specs.World.{Given};
 ghost use Rattle.accesses.specs.Leads.{Runs};
 ghost use Rattle.mirror.specs.Mirror.{compute};
 ghost use Rattle.results.specs.Worked.{madeBy};
-ghost use Rattle.mirror.specs.Runnable.{executable, partOf};
+ghost use Rattle.mirror.specs.Runnable.{executable, LeftTo};
 use alu::sums::adc;
 use alu::sums::add;
 use alu::sums::cp;
@@ -75,8 +74,7 @@ fn never_executed(cpu: Cpu, port: Port) -> Worked
 
 // The match in the order of the Rust, in three parts: up to OR, from JP to RRA, and what follows a prefix.
 pub fn compute(cpu: Cpu, port: Port, opcode: Opcode, src: u16, at: Addr, mem: &mut [u8]) -> Worked
-    requires { ⌜ length (now mem) ≡ 65536 ⌝ }
-    requires { ⌜ T (executable opcode) ⌝ }
+    requires { ⌜ Given (now mem) (T (executable opcode)) ⌝ }
     ensures { λ r. ⌜ Runs (compute opcode (at .0) src) cpu port (now (mem .entry)) (madeBy r) (r .cpu) (r .port) (now (mem .exit)) ⌝ }
 {
     let regs = cpu.registers;
@@ -118,9 +116,7 @@ fn compute_from_jp(
     at: Addr,
     mem: &mut [u8],
 ) -> Worked
-    requires { ⌜ length (now mem) ≡ 65536 ⌝ }
-    requires { ⌜ T (executable opcode) ⌝ }
-    requires { ⌜ T (leb 2 (partOf opcode)) ⌝ }
+    requires { ⌜ Given (now mem) (LeftTo 2 opcode) ⌝ }
     ensures { λ r. ⌜ Runs (compute opcode (at .0) src) cpu port (now (mem .entry)) (madeBy r) (r .cpu) (r .port) (now (mem .exit)) ⌝ }
 {
     let regs = cpu.registers;
@@ -157,9 +153,7 @@ fn compute_from_rlc(
     at: Addr,
     mem: &mut [u8],
 ) -> Worked
-    requires { ⌜ length (now mem) ≡ 65536 ⌝ }
-    requires { ⌜ T (executable opcode) ⌝ }
-    requires { ⌜ T (leb 3 (partOf opcode)) ⌝ }
+    requires { ⌜ Given (now mem) (LeftTo 3 opcode) ⌝ }
     ensures { λ r. ⌜ Runs (compute opcode (at .0) src) cpu port (now (mem .entry)) (madeBy r) (r .cpu) (r .port) (now (mem .exit)) ⌝ }
 {
     let regs = cpu.registers;

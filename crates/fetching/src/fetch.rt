@@ -1,8 +1,8 @@
 // Points 5 and 6: the EI latch, the fetch, and the end of HaltBug.
 ghost use mathlib.Core.Path.{_≡_};
-ghost use lib.ListN.{length};
 ghost use Rattle.definition.specs.Step.{enabled};
-ghost use Rattle.instruction.specs.Entry.{rowAt, Plain, Prefixed};
+ghost use Rattle.instruction.specs.Entry.{rowAt, Tables};
+ghost use Rattle.memory.specs.World.{Given};
 ghost use Rattle.stages.specs.Stages.{unbugged, Fetches};
 use crate::Fetched;
 use accesses::fetch::fetch_next_pc;
@@ -49,9 +49,7 @@ pub fn fetch_entry(
     prefixed: &[u32; 256],
     mem: &mut [u8],
 ) -> Fetched
-    requires { ⌜ length (now mem) ≡ 65536 ⌝ }
-    requires { ⌜ Plain (now plain) ⌝ }
-    requires { ⌜ Prefixed (now prefixed) ⌝ }
+    requires { ⌜ Given (now mem) (Tables (now plain) (now prefixed)) ⌝ }
     ensures { λ r. ⌜ Fetches cpu port (now (mem .entry)) (r .at .0) (rowAt (r .entry) (r .byte)) (r .cpu) (r .port) (now (mem .exit)) ⌝ }
 {
     let c = enable(cpu);

@@ -53,3 +53,8 @@ Plain t = (b : ℕ) → b < 256 → rowAt (getD t b 0) b ≡ rowOf (decode b)
 
 unfoldable pub Prefixed : List ℕ → Type 0
 Prefixed t = (b : ℕ) → b < 256 → rowAt (getD t b 0) b ≡ prefixedRow (decodeCB b)
+
+-- the two that a step is lent
+pub record Tables (t u : List ℕ) : Type 0 where
+  pub plain : Plain t
+  pub prefixed : Prefixed u

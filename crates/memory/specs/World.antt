@@ -98,6 +98,11 @@ Peeks = Looks peek
 abbrev pub Takes : ℕ → ℕ → Port → List ℕ → ℕ → Port → List ℕ → Type 0
 Takes a v = Gives (writeAndTake a v)
 
+-- What a contract asks that asks for more than a memory of 65,536 bytes.
+pub record Given (m : List ℕ) (P : Type 0) : Type 0 where
+  pub whole : length m ≡ 65536
+  pub holds : P
+
 -- Which of the definition's memories stands behind it: plain memory, the same bytes. (Proved of every tree in proofs/Following; the run's loop names it by this name alone.)
 abbrev pub behind : Bus (List ℕ)
 behind = plain

@@ -1,7 +1,7 @@
 -- Which rows can be run: no operand that is never read or never written, no prefix, and no bit past a byte's eight.
 use mathlib.Core.Bool.{Bool, _&&_}
 use Prim.Native.Nat.{ℕ}
-use lib.Dec.{ltb}
+use lib.Dec.{T, leb, ltb}
 use Rattle.instruction.specs.declared.Opcode.{Opcode}
 use Rattle.instruction.specs.declared.Opcode.the-variants as op
 use Rattle.instruction.specs.declared.Instruction.{Instruction}
@@ -69,6 +69,11 @@ partOf o = placed o .0
 
 abbrev pub executable : Opcode → Bool
 executable o = ltb (placed o .1) 8
+
+-- what a part of the match is left with: an opcode that can be executed, of this part or a later one
+pub record LeftTo (part : ℕ) (o : Opcode) : Type 0 where
+  pub can : T (executable o)
+  pub later : T (leb part (partOf o))
 
 abbrev pub runnable : Instruction → Bool
 runnable i = readable (i .src) && writable (i .dest) && executable (i .opcode)

@@ -1,11 +1,10 @@
 // Steps one after the other, up to a budget: the loop of a run, on memory and a state that have been tested.
 ghost use mathlib.Core.Path.{_≡_};
 ghost use Prim.Native.Nat.{_%_};
-ghost use lib.ListN.{length};
 ghost use Rattle.outcome.specs.declared.LastOutcome.the-variants.{NothingRun};
 ghost use Rattle.sm83.specs.State.{flags};
 ghost use Rattle.definition.specs.Run.{repeated};
-ghost use Rattle.memory.specs.World.{behind};
+ghost use Rattle.memory.specs.World.{Given, behind};
 ghost use Rattle.ending.specs.Ran.{answer};
 use cpu::step::next_instruction;
 use ending::Ran;
@@ -18,8 +17,7 @@ use tables::instructions_table::instructions;
 use tables::prefixed_table::prefixed_instructions;
 
 pub fn repeat(cpu: Cpu, mem: &mut [u8], budget: u16) -> Ran
-    requires { ⌜ length (now mem) ≡ 65536 ⌝ }
-    requires { ⌜ flags cpu % 16 ≡ 0 ⌝ }
+    requires { ⌜ Given (now mem) (flags cpu % 16 ≡ 0) ⌝ }
     ensures { λ r. ⌜ answer r (now (mem .exit)) ≡ repeated behind NothingRun budget cpu (now (mem .entry)) ⌝ }
 {
     let table = instructions();

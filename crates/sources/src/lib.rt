@@ -6,6 +6,7 @@ ghost use lib.Dec.{T};
 ghost use lib.ListN.{length};
 ghost use Rattle.definition.specs.Execution.{imm8, give};
 ghost use Rattle.operands.specs.declared.OperandType.the-variants.{AddrHLDec, AddrHLInc, Imm8Signed, HighAddr8, Addr16};
+ghost use Rattle.memory.specs.World.{Given};
 ghost use Rattle.accesses.specs.Leads.{Leads, Runs};
 ghost use Rattle.mirror.specs.Operands.{readOperand};
 ghost use Rattle.operands.specs.Operand.{readable};
@@ -128,8 +129,7 @@ fn never_read(cpu: Cpu, port: Port) -> Val16
 }
 
 pub fn read_operand(cpu: Cpu, port: Port, ty: OperandType, mem: &mut [u8]) -> Val16
-    requires { ⌜ length (now mem) ≡ 65536 ⌝ }
-    requires { ⌜ T (readable ty) ⌝ }
+    requires { ⌜ Given (now mem) (T (readable ty)) ⌝ }
     ensures { λ r. ⌜ Runs (readOperand ty) cpu port (now (mem .entry)) (r .value) (r .cpu) (r .port) (now (mem .exit)) ⌝ }
 {
     match ty {

@@ -1,4 +1,5 @@
 -- What the stages of `next_instruction` do, in the order of 000: they split the definition's step where the code's functions split it.
+use mathlib.Core.Path.{_≡_}
 use mathlib.Core.Bool.{Bool, false}
 use mathlib.Core.List.{List}
 use Prim.Native.Nat.{ℕ}
@@ -13,6 +14,7 @@ use Rattle.sm83.specs.State.{setPC, setHalt}
 use Rattle.definition.specs.Execution.{Does, give}
 use Rattle.definition.specs.Step.{Ended, isBug, instruction, awake, rested}
 use Rattle.instruction.specs.declared.Instruction.{Instruction}
+use Rattle.instruction.specs.Entry.{Tables}
 use Rattle.memory.specs.declared.Port.{Port}
 use Rattle.mirror.specs.Mirror.{execRow}
 use Rattle.mirror.specs.Runnable.{runnable}
@@ -24,6 +26,12 @@ afterHalt halting = if halting then give Halting else awake
 
 abbrev pub Wakes : Cpu → Port → List ℕ → Bool → Cpu → Port → List ℕ → Type 0
 Wakes s port m halting = Reaches (rested s) s port m (afterHalt halting)
+
+-- points 1 and 2 do not apply, and the tables are there
+pub record Going (s : Cpu) (t u : List ℕ) : Type 0 where
+  pub tables : Tables t u
+  pub not-stopped : s .stopped ≡ false
+  pub no-transfer : s .hdma ≡ false
 
 -- point 4: whether an interrupt is taken is asked only where IME is set
 abbrev pub called : Bool → (Bool → Ask Ended) → Ask Ended

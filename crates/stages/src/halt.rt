@@ -3,6 +3,7 @@ ghost use mathlib.Core.Path.{_≡_};
 ghost use mathlib.Core.Bool.{true};
 ghost use lib.ListN.{length};
 ghost use Rattle.definition.specs.Step.{isBug, isAsleep};
+ghost use Rattle.memory.specs.World.{Given};
 ghost use Rattle.stages.specs.Stages.{Wakes};
 use crate::Woken;
 use accesses::states::with_halt;
@@ -35,8 +36,7 @@ pub fn is_asleep(halt: HaltMode) -> bool
 
 // 3. A halt goes on for one idle access, and ends with it if an interrupt is requested; a CGB takes one access more.
 fn rest(cpu: Cpu, port: Port, mem: &mut [u8]) -> Woken
-    requires { ⌜ length (now mem) ≡ 65536 ⌝ }
-    requires { ⌜ isAsleep (cpu .halt) ≡ true ⌝ }
+    requires { ⌜ Given (now mem) (isAsleep (cpu .halt) ≡ true) ⌝ }
     ensures { λ r. ⌜ Wakes cpu port (now (mem .entry)) (r .halting) (r .cpu) (r .port) (now (mem .exit)) ⌝ }
 {
     let p = memory::idle(port, mem);

@@ -9,7 +9,7 @@ use Rattle.run.proofs.run.Statement.{statement}
 use Rattle.run.proofs.run.Tie as tie
 
 repeat-requires : tie.Need-repeat-requires
-repeat-requires c κs = (eqb-true _ _ (c .before .before .before .before .if1 .taken), eqb-true _ _ (c .before .if2 .taken))
+repeat-requires c κs = record { whole = eqb-true _ _ (c .before .before .before .before .if1 .taken); holds = eqb-true _ _ (c .before .if2 .taken) }
 
 returns : tie.Need-returns
 returns c = c .before .before .repeat .ensures ∙ run-accepted behind stands-behind _ _ _ (c .before .before .before .before .before .before .before .if1 .taken) (c .before .before .before .before .if2 .taken)

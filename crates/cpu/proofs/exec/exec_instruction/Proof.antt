@@ -5,13 +5,13 @@ use Rattle.cpu.proofs.exec.exec_instruction.Statement.{statement}
 use Rattle.cpu.proofs.exec.exec_instruction.Tie as tie
 
 read-operand-requires : tie.Need-read-operand-requires
-read-operand-requires c κs = (c .before .before .pre .0, can-read (c .before .before .args .instruction) (c .before .before .pre .1))
+read-operand-requires c κs = record { whole = c .before .before .pre .whole; holds = can-read (c .before .before .args .instruction) (c .before .before .pre .holds) }
 
 compute-requires : tie.Need-compute-requires
-compute-requires c κs = (c .before .before .before .before .before .read-operand .ensures .whole, can-compute (c .before .before .before .before .before .before .before .before .args .instruction) (c .before .before .before .before .before .before .before .before .pre .1))
+compute-requires c κs = record { whole = c .before .before .before .before .before .read-operand .ensures .whole; holds = can-compute (c .before .before .before .before .before .before .before .before .args .instruction) (c .before .before .before .before .before .before .before .before .pre .holds) }
 
 write-operand-requires : tie.Need-write-operand-requires
-write-operand-requires c κs = (c .before .before .before .before .before .compute .ensures .whole, can-write (c .before .before .before .before .before .before .before .before .before .before .before .before .before .before .args .instruction) (c .before .before .before .before .before .before .before .before .before .before .before .before .before .before .pre .1))
+write-operand-requires c κs = record { whole = c .before .before .before .before .before .compute .ensures .whole; holds = can-write (c .before .before .before .before .before .before .before .before .before .before .before .before .before .before .args .instruction) (c .before .before .before .before .before .before .before .before .before .before .before .before .before .before .pre .holds) }
 
 returns : tie.Need-returns
 returns c = record { there = executed _ _ _ _ _ _ _ _ _ _ _ _ _ _ _ _ (c .before .before .before .before .before .before .before .before .before .before .before .before .before .before .before .before .read-operand .ensures .there) (c .before .before .before .before .before .before .before .before .before .before .compute .ensures .there) (c .before .before .before .before .write-operand .ensures .there); whole = c .before .before .before .before .write-operand .ensures .whole }

@@ -11,7 +11,7 @@ returns-2 : tie.Need-returns-2
 returns-2 c = record { there = transfers _ _ _ (c .before .before .before .before .before .if1 .left) _ _ (c .before .before .before .before .if2 .taken) (c .before .before .idle2 .ensures); whole = c .before .before .idle2 .ensures .whole }
 
 running-requires : tie.Need-running-requires
-running-requires c κs = let pre = c .before .before .before .before .pre in (pre .0, (pre .1 .0, (pre .1 .1, (c .before .before .if1 .left, c .before .if2 .left))))
+running-requires c κs = let pre = c .before .before .before .before .pre in record { whole = pre .whole; holds = record { tables = pre .holds; not-stopped = c .before .before .if1 .left; no-transfer = c .before .if2 .left } }
 
 returns-3 : tie.Need-returns-3
 returns-3 c = c .before .before .running .ensures

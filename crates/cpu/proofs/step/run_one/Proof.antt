@@ -9,7 +9,7 @@ use Rattle.cpu.proofs.step.run_one.Statement.{statement}
 use Rattle.cpu.proofs.step.run_one.Tie as tie
 
 exec-instruction-requires : tie.Need-exec-instruction-requires
-exec-instruction-requires c κs = (c .before .before .before .before .before .before .before .fetch-entry .ensures .left .whole, subst (λ (i : Instruction). T (runnable i)) (sym (c .before .from-entry .ensures)) (c .before .before .before .before .before .before .before .fetch-entry .ensures .can-run))
+exec-instruction-requires c κs = record { whole = c .before .before .before .before .before .before .before .fetch-entry .ensures .left .whole; holds = subst (λ (i : Instruction). T (runnable i)) (sym (c .before .from-entry .ensures)) (c .before .before .before .before .before .before .before .fetch-entry .ensures .can-run) }
 
 returns : tie.Need-returns
 returns c =

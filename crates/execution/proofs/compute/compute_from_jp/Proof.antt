@@ -10,7 +10,7 @@ at-jp : tie.Need-returns
 at-jp c = record { there = jumps _ _ _ _ _ _ _ _ _ _ _ (c .before .before .before .before .before .opcode .given .1) (c .before .before .jp .ensures .there); whole = c .before .before .jp .ensures .whole }
 
 at-jphl : tie.Need-returns-2
-at-jphl c = record { there = jumps-to-hl _ _ _ _ _ _ _ (c .before .enum-told .given .1) (c .jump .ensures); whole = c .before .before .before .before .before .pre .0 }
+at-jphl c = record { there = jumps-to-hl _ _ _ _ _ _ _ (c .before .enum-told .given .1) (c .jump .ensures); whole = c .before .before .before .before .before .pre .whole }
 
 at-jr : tie.Need-returns-3
 at-jr c = record { there = jumps-by _ _ _ _ _ _ _ _ _ _ _ (c .before .before .before .before .before .opcode2 .given .1) (c .before .before .jr .ensures .there); whole = c .before .before .jr .ensures .whole }
@@ -28,37 +28,37 @@ at-rst : tie.Need-returns-7
 at-rst c = record { there = restarts _ _ _ _ _ _ _ _ _ _ _ (c .before .before .before .before .before .opcode5 .given .1) (c .before .before .call-to .ensures .there); whole = c .before .before .call-to .ensures .whole }
 
 at-di : tie.Need-returns-8
-at-di c = record { there = disables _ _ _ _ _ _ _ (c .before .enum-told3 .given .1) (c .di .ensures); whole = c .before .before .before .before .before .pre .0 }
+at-di c = record { there = disables _ _ _ _ _ _ _ (c .before .enum-told3 .given .1) (c .di .ensures); whole = c .before .before .before .before .before .pre .whole }
 
 at-ei : tie.Need-returns-9
-at-ei c = record { there = enables _ _ _ _ _ _ _ (c .before .enum-told4 .given .1) (c .ei .ensures); whole = c .before .before .before .before .before .pre .0 }
+at-ei c = record { there = enables _ _ _ _ _ _ _ (c .before .enum-told4 .given .1) (c .ei .ensures); whole = c .before .before .before .before .before .pre .whole }
 
 at-ccf : tie.Need-returns-10
-at-ccf c = record { there = by-acc _ _ _ _ _ _ _ _ CCF (c .before .before .enum-told5 .given .1) (c .before .ccf .ensures) (c .with-a .ensures); whole = c .before .before .before .before .before .before .pre .0 }
+at-ccf c = record { there = by-acc _ _ _ _ _ _ _ _ CCF (c .before .before .enum-told5 .given .1) (c .before .ccf .ensures) (c .with-a .ensures); whole = c .before .before .before .before .before .before .pre .whole }
 
 at-scf : tie.Need-returns-11
-at-scf c = record { there = by-acc _ _ _ _ _ _ _ _ SCF (c .before .before .enum-told6 .given .1) (c .before .scf .ensures) (c .with-a2 .ensures); whole = c .before .before .before .before .before .before .pre .0 }
+at-scf c = record { there = by-acc _ _ _ _ _ _ _ _ SCF (c .before .before .enum-told6 .given .1) (c .before .scf .ensures) (c .with-a2 .ensures); whole = c .before .before .before .before .before .before .pre .whole }
 
 at-daa : tie.Need-returns-12
-at-daa c = record { there = by-acc _ _ _ _ _ _ _ _ DAA (c .before .before .enum-told7 .given .1) (c .before .daa .ensures) (c .with-a3 .ensures); whole = c .before .before .before .before .before .before .pre .0 }
+at-daa c = record { there = by-acc _ _ _ _ _ _ _ _ DAA (c .before .before .enum-told7 .given .1) (c .before .daa .ensures) (c .with-a3 .ensures); whole = c .before .before .before .before .before .before .pre .whole }
 
 at-cpl : tie.Need-returns-13
-at-cpl c = record { there = by-acc _ _ _ _ _ _ _ _ CPL (c .before .before .enum-told8 .given .1) (c .before .cpl .ensures) (c .with-a4 .ensures); whole = c .before .before .before .before .before .before .pre .0 }
+at-cpl c = record { there = by-acc _ _ _ _ _ _ _ _ CPL (c .before .before .enum-told8 .given .1) (c .before .cpl .ensures) (c .with-a4 .ensures); whole = c .before .before .before .before .before .before .pre .whole }
 
 at-rlca : tie.Need-returns-14
-at-rlca c = record { there = by-acc _ _ _ _ _ _ _ _ RLCA (c .before .before .enum-told9 .given .1) (c .before .rlca .ensures) (c .with-a5 .ensures); whole = c .before .before .before .before .before .before .pre .0 }
+at-rlca c = record { there = by-acc _ _ _ _ _ _ _ _ RLCA (c .before .before .enum-told9 .given .1) (c .before .rlca .ensures) (c .with-a5 .ensures); whole = c .before .before .before .before .before .before .pre .whole }
 
 at-rla : tie.Need-returns-15
-at-rla c = record { there = by-acc _ _ _ _ _ _ _ _ RLA (c .before .before .enum-told10 .given .1) (c .before .rla .ensures) (c .with-a6 .ensures); whole = c .before .before .before .before .before .before .pre .0 }
+at-rla c = record { there = by-acc _ _ _ _ _ _ _ _ RLA (c .before .before .enum-told10 .given .1) (c .before .rla .ensures) (c .with-a6 .ensures); whole = c .before .before .before .before .before .before .pre .whole }
 
 at-rrca : tie.Need-returns-16
-at-rrca c = record { there = by-acc _ _ _ _ _ _ _ _ RRCA (c .before .before .enum-told11 .given .1) (c .before .rrca .ensures) (c .with-a7 .ensures); whole = c .before .before .before .before .before .before .pre .0 }
+at-rrca c = record { there = by-acc _ _ _ _ _ _ _ _ RRCA (c .before .before .enum-told11 .given .1) (c .before .rrca .ensures) (c .with-a7 .ensures); whole = c .before .before .before .before .before .before .pre .whole }
 
 at-rra : tie.Need-returns-17
-at-rra c = record { there = by-acc _ _ _ _ _ _ _ _ RRA (c .before .before .enum-told12 .given .1) (c .before .rra .ensures) (c .with-a8 .ensures); whole = c .before .before .before .before .before .before .pre .0 }
+at-rra c = record { there = by-acc _ _ _ _ _ _ _ _ RRA (c .before .before .enum-told12 .given .1) (c .before .rra .ensures) (c .with-a8 .ensures); whole = c .before .before .before .before .before .before .pre .whole }
 
 rest-requires : tie.Need-compute-from-rlc-requires
-rest-requires c κs = let pre = c .before .before .before .before .pre in (pre .0, (pre .1 .0, third (c .before .before .before .before .args .opcode) (pre .1 .1) (c .before .match .keys18)))
+rest-requires c κs = let pre = c .before .before .before .before .pre in record { whole = pre .whole; holds = record { can = pre .holds .can; later = third (c .before .before .before .before .args .opcode) (pre .holds .later) (c .before .match .keys18) } }
 
 at-rest : tie.Need-returns-18
 at-rest c = c .before .before .compute-from-rlc .ensures

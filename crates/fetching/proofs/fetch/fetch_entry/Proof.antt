@@ -13,17 +13,17 @@ returns c =
     let first = c .before .before .before .before .before .before .before .before .before .before .before .before .before .before .before .fetch-next-pc in
     let second = c .before .before .before .before .before .before .fetch-next-pc2 in
     fetches-prefixed _ _ _ _ _ _ _ _ (c .before .before .before .before .before .before .before .before .before .before .before .before .before .before .before .before .before .before .before .enable .ensures) (first .ensures .there) _ _ (c .before .before .before .before .before .before .before .before .before .before .unbug .ensures) _ _ _ _ (c .before .before .before .before .before .before .before .before .if1 .taken) (second .ensures .there)
-    (omega (arith, second .ok)) (c .before .before .before .before .before .before .before .before .before .before .before .before .before .before .before .before .before .before .before .before .before .pre .1 .1 _ (omega (arith, second .ok))) (λ i. omega (arith, c .before .before .before .before .slice-known3 .given i)) (omega (arith, second .ok)) (second .ensures .whole)
+    (omega (arith, second .ok)) (c .before .before .before .before .before .before .before .before .before .before .before .before .before .before .before .before .before .before .before .before .before .pre .holds .prefixed _ (omega (arith, second .ok))) (λ i. omega (arith, c .before .before .before .before .slice-known3 .given i)) (omega (arith, second .ok)) (second .ensures .whole)
 
 returns-2 : tie.Need-returns-2
 unfolding Plain
 returns-2 c =
     let first = c .before .before .before .before .before .before .before .before .before .fetch-next-pc in
     fetches-plain _ _ _ _ _ _ _ _ (c .before .before .before .before .before .before .before .before .before .before .before .before .before .enable .ensures) (first .ensures .there) _ _ (c .before .before .before .before .unbug .ensures) (omega (arith, first .ok))
-    (c .before .before .if1 .left) (c .before .before .before .before .before .before .before .before .before .before .before .before .before .before .before .pre .1 .0 _ (omega (arith, first .ok))) (λ i. omega (arith, c .before .before .before .before .before .before .before .slice-known2 .given i)) (omega (arith, c .before .before .before .before .unbug .ok)) (first .ensures .whole)
+    (c .before .before .if1 .left) (c .before .before .before .before .before .before .before .before .before .before .before .before .before .before .before .pre .holds .plain _ (omega (arith, first .ok))) (λ i. omega (arith, c .before .before .before .before .before .before .before .slice-known2 .given i)) (omega (arith, c .before .before .before .before .unbug .ok)) (first .ensures .whole)
 
 same-length : tie.Need-same-length
-same-length c = c .before .before .before .before .before .before .fetch-next-pc2 .ensures .whole ∙ sym (c .before .before .before .before .before .before .before .before .before .before .before .before .before .before .before .before .before .before .before .before .before .pre .0)
+same-length c = c .before .before .before .before .before .before .fetch-next-pc2 .ensures .whole ∙ sym (c .before .before .before .before .before .before .before .before .before .before .before .before .before .before .before .before .before .before .before .before .before .pre .whole)
 
 pub fetch-entry-spec : {M : Type 1} → statement M
 fetch-entry-spec =

@@ -18,16 +18,16 @@ abbrev μ-loop : tie.MeasureT-loop
 loop-holds : tie.Need-loop-holds Inv-loop μ-loop
 loop-holds c =
     let start = c .before .before .before in
-    starts behind stands-behind _ _ _ _ refl (start .pre .0) (omega (arith, start .good, start .pre .1), λ i. omega (arith, c .before .before .slice-known .given i))
+    starts behind stands-behind _ _ _ _ refl (start .pre .whole) (omega (arith, start .good, start .pre .holds), λ i. omega (arith, c .before .before .slice-known .given i))
 
 next-instruction-requires : tie.Need-next-instruction-requires Inv-loop μ-loop
-next-instruction-requires c κs = (c .before .before .before .before .loop .inv .long, (c .before .before .before .before .before .before .instructions .ensures, c .before .before .before .before .before .prefixed-instructions .ensures))
+next-instruction-requires c κs = record { whole = c .before .before .before .before .loop .inv .long; holds = record { plain = c .before .before .before .before .before .before .instructions .ensures; prefixed = c .before .before .before .before .before .prefixed-instructions .ensures } }
 
 add-n : tie.Need-add-n Inv-loop μ-loop
 add-n c = omega (arith, c .before .before .before .before .before .before .before .before .loop-test .taken, c .before .before .before .before .before .before .before .before .before .before .before .before .before .fits .budget)
 
 same-length : tie.Need-same-length Inv-loop μ-loop
-same-length c = c .before .before .before .before .before .before .before .next-instruction .ensures .whole ∙ sym (c .before .before .before .before .before .before .before .before .before .before .before .before .before .before .before .before .pre .0)
+same-length c = c .before .before .before .before .before .before .before .next-instruction .ensures .whole ∙ sym (c .before .before .before .before .before .before .before .before .before .before .before .before .before .before .before .before .pre .whole)
 
 returns : tie.Need-returns Inv-loop μ-loop
 returns c =
@@ -43,7 +43,7 @@ loop-again c =
     (sym (c .before .stops .ensures) ∙ c .if1 .left)
 
 same-length-2 : tie.Need-same-length-2 Inv-loop μ-loop
-same-length-2 c = c .before .before .loop .inv .long ∙ sym (c .before .before .before .before .before .before .pre .0)
+same-length-2 c = c .before .before .loop .inv .long ∙ sym (c .before .before .before .before .before .before .pre .whole)
 
 returns-2 : tie.Need-returns-2 Inv-loop μ-loop
 returns-2 c = ends behind stands-behind _ _ _ _ _ _ _ _ (c .before .before .loop .inv) (c .before .loop-test .left)

@@ -10,7 +10,7 @@ returns c =
     let start = c .before .before .before .before .before .before .before .before .before .before .before .before in
     let idle = c .before .before .before .before .before .before .before .before .before .idle in
     let peek = c .before .before .before .before .before .peek-next-interrupt in
-    record { there = woken-dmg (start .args .cpu) _ _ _ refl _ _ _ _ (start .pre .1) (idle .ensures) (peek .ensures) _ (c .before .before .if1 .taken) (c .before .with-halt .ensures) (c .if2 .taken); whole = peek .ensures .whole }
+    record { there = woken-dmg (start .args .cpu) _ _ _ refl _ _ _ _ (start .pre .holds) (idle .ensures) (peek .ensures) _ (c .before .before .if1 .taken) (c .before .with-halt .ensures) (c .if2 .taken); whole = peek .ensures .whole }
 
 returns-2 : tie.Need-returns-2
 returns-2 c =
@@ -18,14 +18,14 @@ returns-2 c =
     let idle = c .before .before .before .before .before .before .before .before .before .before .before .before .before .idle in
     let peek = c .before .before .before .before .before .before .before .before .before .peek-next-interrupt in
     let more = c .before .before .idle2 in
-    record { there = woken-cgb (start .args .cpu) _ _ _ refl _ _ _ _ (start .pre .1) (idle .ensures) (peek .ensures) _ (c .before .before .before .before .before .before .if1 .taken) (c .before .before .before .before .before .with-halt .ensures) _ _ (c .before .before .before .before .if2 .left) (more .ensures); whole = more .ensures .whole }
+    record { there = woken-cgb (start .args .cpu) _ _ _ refl _ _ _ _ (start .pre .holds) (idle .ensures) (peek .ensures) _ (c .before .before .before .before .before .before .if1 .taken) (c .before .before .before .before .before .with-halt .ensures) _ _ (c .before .before .before .before .if2 .left) (more .ensures); whole = more .ensures .whole }
 
 returns-3 : tie.Need-returns-3
 returns-3 c =
     let start = c .before .before .before .before .before .before .before .before .before .before in
     let idle = c .before .before .before .before .before .before .before .idle in
     let peek = c .before .before .before .peek-next-interrupt in
-    record { there = still-asleep _ _ _ _ refl _ _ _ _ (start .pre .1) (idle .ensures) (peek .ensures) (c .if1 .left); whole = peek .ensures .whole }
+    record { there = still-asleep _ _ _ _ refl _ _ _ _ (start .pre .holds) (idle .ensures) (peek .ensures) (c .if1 .left); whole = peek .ensures .whole }
 
 pub rest-spec : {M : Type 1} → statement M
 rest-spec =

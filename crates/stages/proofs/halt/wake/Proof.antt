@@ -6,7 +6,7 @@ use Rattle.stages.proofs.halt.wake.Statement.{statement}
 use Rattle.stages.proofs.halt.wake.Tie as tie
 
 rest-requires : tie.Need-rest-requires
-rest-requires c κs = (c .before .before .before .before .pre, sym (c .before .before .is-asleep .ensures) ∙ c .before .if1 .taken)
+rest-requires c κs = record { whole = c .before .before .before .before .pre; holds = sym (c .before .before .is-asleep .ensures) ∙ c .before .if1 .taken }
 
 returns : tie.Need-returns
 returns c = c .before .before .rest .ensures
