@@ -15,7 +15,7 @@ use Rattle.outcome.specs.declared.LastOutcome.the-variants.{NothingRun, Last}
 use Rattle.sm83.specs.Basics.{if_then_else_}
 use Rattle.definition.specs.Bus.{Bus, Ran, mcycles}
 use Rattle.definition.specs.Step.{Ended, Admission, accepted, refusedAs, admission, stepOn}
-use Rattle.definition.specs.Run.{stopsRun, RunAnswer, thenRest, repeated, admittedRun, runFor}
+use Rattle.definition.specs.Run.{stopsRun, stopsLast, RunAnswer, thenRest, repeated, admittedRun, runFor}
 
 -- a state and a memory
 pub record Point (W : Type 0) : Type 0 where
@@ -41,10 +41,6 @@ module _ {W : Type 0} (b : Bus W) where
   abbrev pub lastOf : LastOutcome → ℕ → Cpu → W → LastOutcome
   lastOf o zero s m = o
   lastOf o (suc k) s m = Last (stepAfter k s m .value .outcome)
-
-abbrev pub stopsLast : LastOutcome → Bool
-stopsLast NothingRun = false
-stopsLast (Last o) = stopsRun o
 
 -- What the run's answer is, over repeated steps.
 pub record Repeats {W : Type 0} (b : Bus W) (o : LastOutcome) (budget : ℕ) (s : Cpu) (m : W) (r : RunAnswer W) : Type 0 where

@@ -12,8 +12,8 @@ use Rattle.outcome.specs.declared.LastOutcome.the-variants.{NothingRun, Last}
 use Rattle.sm83.specs.Basics.{if_then_else_}
 use Rattle.definition.specs.Bus.{Bus, Ran, mcycles}
 use Rattle.definition.specs.Step.{Ended, Admission, accepted, refusedAs, admission, stepOn}
-use Rattle.definition.specs.Run.{stopsRun, RunAnswer, thenRest, repeated, admittedRun, runFor}
-use Rattle.definition.proofs.Runs.{stopsLast, either-way}
+use Rattle.definition.specs.Run.{stopsRun, stopsLast, RunAnswer, thenRest, repeated, admittedRun, runFor}
+use Rattle.definition.proofs.Runs.{either-way}
 
 -- the last outcome of two pieces
 abbrev pub laterOf : LastOutcome → LastOutcome → LastOutcome

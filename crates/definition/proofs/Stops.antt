@@ -13,8 +13,8 @@ use Rattle.outcome.specs.declared.LastOutcome.the-variants.{NothingRun, Last}
 use Rattle.sm83.specs.Basics.{if_then_else_}
 use Rattle.definition.specs.Bus.{Bus, mcycles}
 use Rattle.definition.specs.Step.{Admission, accepted, refusedAs, admission, stepOn}
-use Rattle.definition.specs.Run.{stopsRun, RunAnswer, repeated, admittedRun, runFor}
-use Rattle.definition.proofs.Runs.{stepAfter, spent, lastOf, stopsLast, Repeats, run-repeats}
+use Rattle.definition.specs.Run.{stopsRun, RunAnswer, repeated, admittedRun, runFor, stopsLast}
+use Rattle.definition.proofs.Runs.{stepAfter, spent, lastOf, Repeats, run-repeats}
 
 abbrev hasRun : LastOutcome → Bool
 hasRun NothingRun = false

@@ -22,6 +22,11 @@ stopsRun (RunningInterrupt i) = false
 stopsRun (Breakpoint r) = true
 stopsRun (Refused r) = true
 
+-- a run whose last outcome is this one goes no further; one of which nothing has been run goes on
+abbrev pub stopsLast : LastOutcome → Bool
+stopsLast NothingRun = false
+stopsLast (Last o) = stopsRun o
+
 -- "It answers the last outcome ("nothing run" for budget 0), steps done and M-cycles spent."
 pub record RunAnswer (W : Type 0) : Type 0 where
   pub last : LastOutcome

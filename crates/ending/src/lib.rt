@@ -1,8 +1,7 @@
 // What a run answers, which outcomes end it, and a run that is refused before it begins.
 ghost use mathlib.Core.Path.{_≡_};
-ghost use Rattle.definition.specs.Run.{stopsRun, notRun};
+ghost use Rattle.definition.specs.Run.{stopsRun, stopsLast, notRun};
 ghost use Rattle.ending.specs.Ran.{answer};
-ghost use Rattle.ending.specs.Stopped.{stoppedBy};
 use outcome::LastOutcome;
 use outcome::Outcome;
 use outcome::Refusal;
@@ -34,7 +33,7 @@ pub fn stops(outcome: Outcome) -> bool
 
 // A run whose last outcome is this one goes no further, whatever is left of its budget.
 pub fn stopped(last: LastOutcome) -> bool
-    ensures { λ r. ⌜ r ≡ stoppedBy last ⌝ }
+    ensures { λ r. ⌜ r ≡ stopsLast last ⌝ }
 {
     match last {
         LastOutcome::NothingRun => false,

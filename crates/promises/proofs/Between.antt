@@ -11,8 +11,8 @@ use Rattle.outcome.specs.declared.LastOutcome.the-variants.{NothingRun}
 use Rattle.sm83.specs.Basics.{if_then_else_}
 use Rattle.definition.specs.Bus.{Bus, plain}
 use Rattle.definition.specs.Step.{Admission, accepted, refusedAs, admission}
-use Rattle.definition.specs.Run.{RunAnswer, repeated, runFor}
-use Rattle.definition.proofs.Runs.{stopsLast, repeated-repeats}
+use Rattle.definition.specs.Run.{stopsLast, RunAnswer, repeated, runFor}
+use Rattle.definition.proofs.Runs.{repeated-repeats}
 use Rattle.definition.proofs.Split.{repeated-in-two, run-as}
 use Rattle.routine.specs.Trace.{stateAt, memoryAt}
 use Rattle.routine.proofs.Alone.{run-end}

@@ -5,9 +5,8 @@ use mathlib.Core.List.{List}
 use Prim.Native.Nat.{ℕ, _+_}
 use Rattle.sm83.specs.declared.Cpu.{Cpu}
 use Rattle.definition.specs.Bus.{plain}
-use Rattle.definition.specs.Run.{RunAnswer, runFor}
+use Rattle.definition.specs.Run.{stopsLast, RunAnswer, runFor}
 use Rattle.opcodes.proofs.Choices.{if-so, if-not}
-use Rattle.definition.proofs.Runs.{stopsLast}
 use Rattle.definition.proofs.Split.{followedBy, thenRun}
 use Rattle.ranges.proofs.RunPieces.{run-in-two-plain}
 use Rattle.promises.proofs.Calls.{RunCall, stateRun, memoryRun, budgetOf, answered, run-answers}

@@ -6,8 +6,7 @@ use Rattle.sm83.specs.declared.Cpu.{Cpu}
 use Rattle.sm83.specs.Basics.{if_then_else_}
 use Rattle.definition.specs.Bus.{Bus, plain}
 use Rattle.definition.specs.Step.{accepted, admission}
-use Rattle.definition.specs.Run.{RunAnswer, runFor}
-use Rattle.definition.proofs.Runs.{stopsLast}
+use Rattle.definition.specs.Run.{stopsLast, RunAnswer, runFor}
 use Rattle.definition.proofs.Refusals.{accepts, accepts-only}
 use Rattle.definition.proofs.LowBits.{run-low}
 use Rattle.definition.proofs.Split.{followedBy, unlessStopped, thenRun, run-in-two}
