@@ -5,13 +5,14 @@ use Prim.Native.Nat.{ℕ}
 use denote.Ref.{now}
 use Rattle.sm83.specs.declared.Cpu.{Cpu}
 use Rattle.outcome.specs.declared.Verdict.{Verdict}
-use Rattle.definition.specs.Bus.{plain}
+use Rattle.definition.specs.Bus as Bus
+use Rattle.definition.specs.Bus.{plain, mcycles}
+use Rattle.definition.specs.Step.{Ended, stepOn}
 use Rattle.definition.specs.Run.{RunAnswer, runFor}
 use Rattle.routine.specs.Screen.{screen}
 use Rattle.ending.specs.declared.Ran.{Ran}
 use Rattle.ending.specs.Ran.{answer}
 use Rattle.run.specs.declared.Stepped.{Stepped}
-use Rattle.run.specs.Answers.{Answers}
 use Rattle.screen.proofs.screen.screen.Reads as the-screen
 use Rattle.run.proofs.step.Reads as the-step
 use Rattle.run.proofs.run.Reads as the-run
@@ -64,8 +65,21 @@ module _ (c : StepCall) where
   abbrev pub memoryLeft : List ℕ
   memoryLeft = now (c .left .1 .0)
 
-  pub step-answers : Answers stateGiven memoryGiven (c .stepped) memoryLeft
-  step-answers = c .conforms
+  -- what the definition's step answers
+  abbrev defined : Bus.Ran (List ℕ) Ended
+  defined = stepOn plain stateGiven memoryGiven
+
+  pub outcome-is : c .stepped .outcome ≡ defined .value .outcome
+  outcome-is = c .conforms .outcome
+
+  pub state-is : c .stepped .cpu ≡ defined .value .cpu
+  state-is = c .conforms .cpu
+
+  pub memory-is : memoryLeft ≡ defined .memory
+  memory-is = c .conforms .memory
+
+  pub cycles-are : c .stepped .cycles .0 ≡ mcycles (defined .accesses)
+  cycles-are = c .conforms .cycles
 
 -- `run(cpu, mem, budget)`
 pub record RunCall : Type 0 where

@@ -16,7 +16,7 @@ use Rattle.routine.specs.Trace.{Quiet, Fine, isFine, isFineLast, takesNone, Sam
 use Rattle.routine.proofs.Before.{window}
 use Rattle.routine.proofs.PassedRoutine.{demand-3, demand-3-runs, demand-3-runs-end}
 use Rattle.promises.proofs.Between.{stopped-in-between}
-use Rattle.promises.proofs.Calls.{ScreenCall, screened, firstOf, lastOf, lentMarks, marksLeft, verdict-is, marks-are, StepCall, stateGiven, memoryGiven, memoryLeft, step-answers, RunCall, stateRun, memoryRun, budgetOf, answered, run-answers}
+use Rattle.promises.proofs.Calls.{ScreenCall, screened, firstOf, lastOf, lentMarks, marksLeft, verdict-is, marks-are, StepCall, stateGiven, memoryGiven, memoryLeft, outcome-is, state-is, memory-is, RunCall, stateRun, memoryRun, budgetOf, answered, run-answers}
 
 -- The window was screened and passes; its marks are those that the call left.
 module _ (call : ScreenCall) (passes : call .verdict ≡ Passes) (address : lastOf call < 65536) where
@@ -72,10 +72,10 @@ module _ (call : ScreenCall) (passes : call .verdict ≡ Passes) (address : last
     same-states : (k : ℕ) → cpu k ≡ stateAt plain mem (cpu 0) k
     unfolding stateAt
     same-states zero = refl
-    same-states (suc k) = onward k ∙ step-answers (step k) .cpu ∙ ap (λ (s : Cpu). stepOn plain s (mem k) .value .cpu) (same-states k)
+    same-states (suc k) = onward k ∙ state-is (step k) ∙ ap (λ (s : Cpu). stepOn plain s (mem k) .value .cpu) (same-states k)
 
     same-memories : (i : ℕ) → memoryLeft (step i) ≡ stepAt plain mem (cpu 0) i .memory
-    same-memories i = step-answers (step i) .memory ∙ ap (λ (s : Cpu). stepOn plain s (mem i) .memory) (same-states i)
+    same-memories i = memory-is (step i) ∙ ap (λ (s : Cpu). stepOn plain s (mem i) .memory) (same-states i)
 
     goes-on : (i : ℕ) → StepGoesOn i → GoesOn plain first n mem (cpu 0) [] i
     goes-on i g =
@@ -95,9 +95,9 @@ module _ (call : ScreenCall) (passes : call .verdict ≡ Passes) (address : last
           in-the-marks (pc (cpu k)) (subst (λ (s : Cpu). T (isMarked marksOfTheScreen first (pc s))) here (end .0)),
           subst Quiet here (end .1),
           record {
-            outcome = subst⁻¹ (λ o. T (isFine o)) (step-answers (step k) .outcome) (fine .outcome);
+            outcome = subst⁻¹ (λ o. T (isFine o)) (outcome-is (step k)) (fine .outcome);
             none-taken = fine .none-taken;
-            leaves-quiet = subst⁻¹ Quiet (step-answers (step k) .cpu) (fine .leaves-quiet);
+            leaves-quiet = subst⁻¹ Quiet (state-is (step k)) (fine .leaves-quiet);
           },
         )
 
