@@ -4,7 +4,6 @@ use Rattle.sm83.proofs.OneAnswer.{OneAnswer}
 use Rattle.outcome.proofs.Refusal.number.Reads as Refusal-number
 use Rattle.outcome.proofs.Outcome.number.Reads as Outcome-number
 use Rattle.outcome.proofs.LastOutcome.number.Reads as LastOutcome-number
-use Rattle.outcome.proofs.Verdict.number.Reads as Verdict-number
 
 pub Refusal-number-determined : OneAnswer Refusal-number.Post
 Refusal-number-determined κs input v w left other p q = p ∙ sym q
@@ -14,6 +13,3 @@ Outcome-number-determined κs input v w left other p q = p ∙ sym q
 
 pub LastOutcome-number-determined : OneAnswer LastOutcome-number.Post
 LastOutcome-number-determined κs input v w left other p q = p ∙ sym q
-
-pub Verdict-number-determined : OneAnswer Verdict-number.Post
-Verdict-number-determined κs input v w left other p q = p ∙ sym q

@@ -1,21 +1,13 @@
-// What the core answers: how a step or a run ended, why it was refused, what the screen says. The numbers are the document's.
+// What a step and a run answer: how it ended, or why it was refused. The numbers are the document's; what the screen answers stands in `verdict`.
 ghost use mathlib.Core.Path.{_≡_};
-ghost use Rattle.outcome.specs.Numbers.{numberOf, outcomeNumber, lastNumber, verdictNumber};
-use sm83::Addr;
+ghost use Rattle.outcome.specs.Numbers.{numberOf, outcomeNumber, lastNumber};
 use sm83::CpuRegisters;
 
-// Why the core says no, in the order of the document's table.
+// Why a step or a run says no, in the order of the document's table. The screen's refusals are a kind of their own.
 pub enum Refusal {
     MemoryLength,
     LowBitsOfF,
     IllegalOpcode,
-    WindowReversed,
-    WindowTooLong,
-    MarksLength,
-    ForbiddenOpcode,
-    PastTheEnd,
-    FallsThrough,
-    JumpUnmarked,
 }
 
 impl Refusal {
@@ -27,13 +19,6 @@ impl Refusal {
             Refusal::MemoryLength => 1,
             Refusal::LowBitsOfF => 2,
             Refusal::IllegalOpcode => 3,
-            Refusal::WindowReversed => 4,
-            Refusal::WindowTooLong => 5,
-            Refusal::MarksLength => 6,
-            Refusal::ForbiddenOpcode => 7,
-            Refusal::PastTheEnd => 8,
-            Refusal::FallsThrough => 9,
-            Refusal::JumpUnmarked => 10,
         }
     }
 }
@@ -83,27 +68,6 @@ impl LastOutcome {
         match last {
             LastOutcome::NothingRun => 6,
             LastOutcome::Last(outcome) => outcome.number(),
-        }
-    }
-}
-
-// What the screen says of a window. A refusal from before the walk names no address.
-pub enum Verdict {
-    Passes,
-    Refused(Refusal),
-    RefusedAt(Refusal, Addr),
-}
-
-impl Verdict {
-    // 0, or the refusal's number.
-    pub fn number(self) -> u8
-        ensures { λ r. ⌜ r ≡ verdictNumber self ⌝ }
-    {
-        let verdict = self;
-        match verdict {
-            Verdict::Passes => 0,
-            Verdict::Refused(refusal) => refusal.number(),
-            Verdict::RefusedAt(refusal, _) => refusal.number(),
         }
     }
 }

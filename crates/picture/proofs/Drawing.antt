@@ -11,14 +11,14 @@ use lib.Seq.{take-all, take-suc-set}
 use types.Run.{OneOf, miss}
 use denote.Enum.Declared.{tagOf}
 use Rattle.sm83.specs.declared.Addr.{Addr}
-use Rattle.outcome.specs.declared.Refusal.{Refusal}
-use Rattle.outcome.specs.declared.Verdict.{Verdict}
-use Rattle.outcome.specs.declared.Verdict.the-variants.{Passes, Refused, RefusedAt}
+use Rattle.verdict.specs.declared.ScreenRefusal.{ScreenRefusal}
+use Rattle.verdict.specs.declared.Verdict.{Verdict}
+use Rattle.verdict.specs.declared.Verdict.the-variants.{Passes, Refused, RefusedAt}
 use Rattle.sm83.specs.Basics.{next}
 use Rattle.definition.specs.Bus.{byteAt}
-use Rattle.outcome.specs.Numbers.{numberOf}
+use Rattle.verdict.specs.Numbers.{numberOf}
 use Rattle.opcodes.specs.Instruction.{decode, lengthOf}
-use Rattle.outcome.proofs.Verdict.{the-type}
+use Rattle.verdict.proofs.Verdict.{the-type}
 use Rattle.picture.specs.declared.kinds.Stop.{Stop}
 use Rattle.picture.specs.declared.kinds.Cell.{Cell}
 use Rattle.picture.specs.Kinds.{nowhere, stopAt, stopOf, cell, startKind, cellOf, refused, cellAt, kindsFrom}
@@ -70,7 +70,7 @@ no-address Passes one = refl
 no-address (Refused r) one = refl
 no-address (RefusedAt r a) one = absurd (miss (0 ∷ 1 ∷ []) 2 tt one)
 
-pub at-address : (v : Verdict) (r : Refusal) (a : Addr) (number : ℕ) → v ≡ RefusedAt r a → number ≡ numberOf r → stopAt a number ≡ stopOf v
+pub at-address : (v : Verdict) (r : ScreenRefusal) (a : Addr) (number : ℕ) → v ≡ RefusedAt r a → number ≡ numberOf r → stopAt a number ≡ stopOf v
 at-address v r a number e f = ap (stopAt a) f ∙ ap stopOf (sym e)
 
 -- One byte, by what it is: the first byte of an instruction; the refused byte; any other.

@@ -7,7 +7,7 @@ use native.Mathlib.Omega.{arith}
 use lib.Dec.{eqb}
 use borrow.Author.Tests.{lt-ltb}
 use lib.ListN.{getD, length, List·getD-map}
-use Rattle.outcome.specs.declared.Verdict.the-variants.{Passes}
+use Rattle.verdict.specs.declared.Verdict.the-variants.{Passes}
 use Rattle.sm83.specs.Basics.{bit, if_then_else_, next}
 use Rattle.definition.specs.Bus.{byteAt}
 use Rattle.opcodes.specs.Instruction.{decode, operands}

@@ -4,12 +4,12 @@ use mathlib.Core.List.{List, [], _∷_}
 use Prim.Native.Nat.{ℕ, zero, suc, _-_}
 use lib.Dec.{eqb, ltb}
 use Rattle.sm83.specs.declared.Addr.{Addr}
-use Rattle.outcome.specs.declared.Verdict.{Verdict}
-use Rattle.outcome.specs.declared.Verdict.the-variants.{Passes, Refused, RefusedAt}
+use Rattle.verdict.specs.declared.Verdict.{Verdict}
+use Rattle.verdict.specs.declared.Verdict.the-variants.{Passes, Refused, RefusedAt}
 use Rattle.sm83.specs.Basics.{if_then_else_, next}
 use Rattle.definition.specs.Bus.{byteAt}
 use Rattle.sm83.specs.State.{addr}
-use Rattle.outcome.specs.Numbers.{numberOf}
+use Rattle.verdict.specs.Numbers.{numberOf}
 use Rattle.opcodes.specs.Instruction.{decode, operands}
 use Rattle.reading.specs.Opcode.{isJump}
 use Rattle.picture.specs.declared.kinds.Stop.{Stop}

@@ -2,11 +2,11 @@
 ghost use mathlib.Core.Path.{_≡_};
 ghost use lib.ListN.{length};
 ghost use Rattle.picture.specs.Kinds.{stopOf, startKind, cellOf, cellAt, kindsOf};
-use outcome::Verdict;
 use reading::byte::byte;
 use reading::opcode::is_jump;
 use reading::opcode::length_of;
 use sm83::Addr;
+use verdict::Verdict;
 
 // The refused byte, if one is `found`, and whether the walk ends there.
 pub struct Stop {

@@ -4,7 +4,7 @@ use mathlib.Core.List.{List}
 use Prim.Native.Nat.{ℕ}
 use denote.Ref.{now}
 use Rattle.sm83.specs.declared.Cpu.{Cpu}
-use Rattle.outcome.specs.declared.Verdict.{Verdict}
+use Rattle.verdict.specs.declared.Verdict.{Verdict}
 use Rattle.definition.specs.Bus as Bus
 use Rattle.definition.specs.Bus.{plain, mcycles}
 use Rattle.definition.specs.Step.{Ended, stepOn}

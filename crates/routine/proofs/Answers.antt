@@ -4,9 +4,9 @@ use mathlib.Core.Logic.{_⊎_, inl, inr, _↔_}
 use mathlib.Core.List.{List}
 use Prim.Native.Nat.{ℕ, _+_}
 use lib.ListN.{getD, replicate}
-use Rattle.outcome.specs.declared.Refusal.{Refusal}
-use Rattle.outcome.specs.declared.Verdict.{Verdict}
-use Rattle.outcome.specs.declared.Verdict.the-variants.{Passes, Refused, RefusedAt}
+use Rattle.verdict.specs.declared.ScreenRefusal.{ScreenRefusal}
+use Rattle.verdict.specs.declared.Verdict.{Verdict}
+use Rattle.verdict.specs.declared.Verdict.the-variants.{Passes, Refused, RefusedAt}
 use Rattle.routine.specs.Rules.{Start, Rules}
 use Rattle.routine.specs.Screen.{marksOf, marksAfter, verdict, Screened, screen}
 use Rattle.routine.proofs.Marks.{MarkOf, each-mark}
@@ -36,7 +36,7 @@ module _ (m : List ℕ) (first last : ℕ) (marks : List ℕ) where
       after-walk ok (Refused r) none = absurd none
       after-walk ok (RefusedAt r a) finding = (ok, finding, refl)
 
-      by : ((r : Refusal) × Early m first last marks r) ⊎ Admitted m first last marks → Says (screen m first last marks .verdict) (screen m first last marks .marks)
+      by : ((r : ScreenRefusal) × Early m first last marks r) ⊎ Admitted m first last marks → Says (screen m first last marks .verdict) (screen m first last marks .marks)
       by (inl early) = subst⁻¹ (λ (s : Screened). Says (s .verdict) (s .marks)) (refuses m first last marks (early .1)) (early .1, refl)
       by (inr ok) = subst⁻¹ (λ (s : Screened). Says (s .verdict) (s .marks)) (admits m first last marks ok) (after-walk ok (verdict m first n) (verdict-shows m first n))
 

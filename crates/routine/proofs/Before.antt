@@ -8,9 +8,9 @@ use native.Mathlib.Omega.{arith}
 use lib.Dec.{eqb, ltb}
 use lib.ListN.{length}
 use borrow.Author.Tests.{ltb-true, ltb-false, eqb-true, eqb-false, lt-ltb, le-ltb, eq-eqb, ne-eqb}
-use Rattle.outcome.specs.declared.Refusal.{Refusal}
-use Rattle.outcome.specs.declared.Refusal.the-variants.{MemoryLength, WindowReversed, WindowTooLong, MarksLength}
-use Rattle.outcome.specs.declared.Verdict.the-variants.{Refused}
+use Rattle.verdict.specs.declared.ScreenRefusal.{ScreenRefusal}
+use Rattle.verdict.specs.declared.ScreenRefusal.the-variants.{MemoryLength, WindowReversed, WindowTooLong, MarksLength}
+use Rattle.verdict.specs.declared.Verdict.the-variants.{Refused}
 use Rattle.routine.specs.Rules.{Rules}
 use Rattle.routine.specs.Screen.{verdict, Screened, marksAfter, untouched, screen}
 use Rattle.routine.proofs.Findings.{Shows}
@@ -21,7 +21,7 @@ abbrev pub window : ℕ → ℕ → ℕ
 window first last = suc (last - first)
 
 module _ (m : List ℕ) (first last : ℕ) (marks : List ℕ) where
-  pub data Early : Refusal → Type 0 where
+  pub data Early : ScreenRefusal → Type 0 where
     -- 1: "memory is not 65,536 bytes long"
     wrong-memory : length m ≢ 65536 → Early MemoryLength
     -- 4: "window's first address above its last"
@@ -38,27 +38,27 @@ module _ (m : List ℕ) (first last : ℕ) (marks : List ℕ) where
     pub size : window first last ≤ 4096
     pub marks-size : length marks ≡ window first last
 
-  pub early-or-admitted : ((r : Refusal) × Early r) ⊎ Admitted
+  pub early-or-admitted : ((r : ScreenRefusal) × Early r) ⊎ Admitted
   early-or-admitted = memory-test (eqb (length m) 65536) refl
     where
-      marks-test : length m ≡ 65536 → first ≤ last → window first last ≤ 4096 → (b : Bool) → eqb (length marks) (window first last) ≡ b → ((r : Refusal) × Early r) ⊎ Admitted
+      marks-test : length m ≡ 65536 → first ≤ last → window first last ≤ 4096 → (b : Bool) → eqb (length marks) (window first last) ≡ b → ((r : ScreenRefusal) × Early r) ⊎ Admitted
       marks-test k o z true e = inr (record { memory = k; order = o; size = z; marks-size = eqb-true _ _ e })
       marks-test k o z false e = inl (MarksLength, wrong-marks k o z (eqb-false _ _ e))
 
-      size-test : length m ≡ 65536 → first ≤ last → (b : Bool) → ltb 4096 (window first last) ≡ b → ((r : Refusal) × Early r) ⊎ Admitted
+      size-test : length m ≡ 65536 → first ≤ last → (b : Bool) → ltb 4096 (window first last) ≡ b → ((r : ScreenRefusal) × Early r) ⊎ Admitted
       size-test k o true e = inl (WindowTooLong, too-long k o (ltb-true 4096 _ e))
       size-test k o false e = marks-test k o (ltb-false 4096 _ e) (eqb (length marks) (window first last)) refl
 
-      order-test : length m ≡ 65536 → (b : Bool) → ltb last first ≡ b → ((r : Refusal) × Early r) ⊎ Admitted
+      order-test : length m ≡ 65536 → (b : Bool) → ltb last first ≡ b → ((r : ScreenRefusal) × Early r) ⊎ Admitted
       order-test k true e = inl (WindowReversed, reversed k (ltb-true _ _ e))
       order-test k false e = size-test k (ltb-false _ _ e) (ltb 4096 (window first last)) refl
 
-      memory-test : (b : Bool) → eqb (length m) 65536 ≡ b → ((r : Refusal) × Early r) ⊎ Admitted
+      memory-test : (b : Bool) → eqb (length m) 65536 ≡ b → ((r : ScreenRefusal) × Early r) ⊎ Admitted
       memory-test true e = order-test (eqb-true _ _ e) (ltb last first) refl
       memory-test false e = inl (MemoryLength, wrong-memory (eqb-false _ _ e))
 
   -- the number, and the marks as they came
-  pub refuses : {r : Refusal} → Early r → screen m first last marks ≡ untouched r marks
+  pub refuses : {r : ScreenRefusal} → Early r → screen m first last marks ≡ untouched r marks
   unfolding screen
   refuses (wrong-memory k) = simp (ne-eqb _ _ k)
   refuses (reversed k o) = simp (eq-eqb _ _ k, lt-ltb _ _ o)
@@ -71,16 +71,16 @@ module _ (m : List ℕ) (first last : ℕ) (marks : List ℕ) where
   admits ok = simp (eq-eqb _ _ (ok .memory), le-ltb _ _ (ok .order), le-ltb _ _ (ok .size), eq-eqb _ _ (ok .marks-size))
 
   -- and exactly then: a refusal without an address is one of the four
-  pub refused : (r : Refusal) → screen m first last marks .verdict ≡ Refused r → Early r
+  pub refused : (r : ScreenRefusal) → screen m first last marks .verdict ≡ Refused r → Early r
   refused r e = by early-or-admitted
     where
-      same : (q : Refusal) → screen m first last marks .verdict ≡ Refused q → q ≡ r
+      same : (q : ScreenRefusal) → screen m first last marks .verdict ≡ Refused q → q ≡ r
       same q f = cc
 
       never : Admitted → verdict m first (window first last) ≡ Refused r
       never ok = sym (ap (λ (s : Screened). s .verdict) (admits ok)) ∙ e
 
-      by : ((q : Refusal) × Early q) ⊎ Admitted → Early r
+      by : ((q : ScreenRefusal) × Early q) ⊎ Admitted → Early r
       by (inl early) = subst Early (same (early .0) (ap (λ (s : Screened). s .verdict) (refuses (early .1)))) (early .1)
       by (inr ok) = absurd (subst (Shows m first (first + window first last) (Rules m first (first + window first last))) (never ok) (verdict-shows m first (window first last)))
 

@@ -6,10 +6,10 @@ use Prim.Native.Nat.{ℕ, zero, suc, _+_, _≤_, _<_}
 use native.Mathlib.Omega.{arith}
 use lib.Dec.{T-not, not-T, ltb, ltb→lt, nltb→le}
 use lib.Ieee.Bits.{is-true, is-false}
-use Rattle.outcome.specs.declared.Refusal.{Refusal}
-use Rattle.outcome.specs.declared.Refusal.the-variants.{ForbiddenOpcode, PastTheEnd, FallsThrough, JumpUnmarked}
-use Rattle.outcome.specs.declared.Verdict.{Verdict}
-use Rattle.outcome.specs.declared.Verdict.the-variants.{Passes, Refused, RefusedAt}
+use Rattle.verdict.specs.declared.ScreenRefusal.{ScreenRefusal}
+use Rattle.verdict.specs.declared.ScreenRefusal.the-variants.{ForbiddenOpcode, PastTheEnd, FallsThrough, JumpUnmarked}
+use Rattle.verdict.specs.declared.Verdict.{Verdict}
+use Rattle.verdict.specs.declared.Verdict.the-variants.{Passes, Refused, RefusedAt}
 use Rattle.routine.specs.Flow.{flowAt, isForbidden, endsRoutine}
 use Rattle.routine.specs.Rules.{Start, Rules}
 use Rattle.routine.specs.Screen.{refusedAt, verdict}
@@ -29,13 +29,13 @@ module _ (m : List ℕ) (first end : ℕ) where
   Right (suc zero) a = Stops m first end a
   Right (suc (suc k)) a = JumpsToStarts m first end a
 
-  abbrev refusalOf : ℕ → Bool → Refusal
+  abbrev refusalOf : ℕ → Bool → ScreenRefusal
   refusalOf zero true = ForbiddenOpcode
   refusalOf zero false = PastTheEnd
   refusalOf (suc zero) b = FallsThrough
   refusalOf (suc (suc k)) b = JumpUnmarked
 
-  record Lowest (r : Refusal) (a : ℕ) : Type 0 where
+  record Lowest (r : ScreenRefusal) (a : ℕ) : Type 0 where
     round : ℕ
     start : Start m first end a
     earlier : (k : ℕ) → k < round → Every m first end (Right k)
@@ -43,7 +43,7 @@ module _ (m : List ℕ) (first end : ℕ) where
     wrong : Right round a → ⊥
     name : r ≡ refusalOf round (isForbidden (flowAt m a))
 
-  lowest : {r : Refusal} {a : ℕ} → Finding m first end r a → Lowest r a
+  lowest : {r : ScreenRefusal} {a : ℕ} → Finding m first end r a → Lowest r a
   lowest (forbidden {a} s below bad) =
       record { round = 0; start = s; earlier = λ k low. absurd (omega arith); below = below; wrong = λ ok. T-not (isForbidden (flowAt m a)) (ok .0) bad; name = rw (is-true (isForbidden (flowAt m a)) bad) }
   lowest (runs-past {a} s below ok far) =
@@ -62,13 +62,13 @@ module _ (m : List ℕ) (first end : ℕ) where
       before (suc zero) low = stops
       before (suc (suc k)) low = absurd (omega arith)
 
-  not-earlier : {r s : Refusal} {a b : ℕ} (x : Lowest r a) (y : Lowest s b) → x .round < y .round → ⊥
+  not-earlier : {r s : ScreenRefusal} {a b : ℕ} (x : Lowest r a) (y : Lowest s b) → x .round < y .round → ⊥
   not-earlier {a} x y low = x .wrong (y .earlier (x .round) low a (x .start))
 
-  not-lower : {r s : Refusal} {a b : ℕ} (x : Lowest r a) (y : Lowest s b) → x .round ≡ y .round → a < b → ⊥
+  not-lower : {r s : ScreenRefusal} {a b : ℕ} (x : Lowest r a) (y : Lowest s b) → x .round ≡ y .round → a < b → ⊥
   not-lower {a} x y same low = x .wrong (subst⁻¹ (λ (k : ℕ). Right k a) same (y .below a (x .start) low))
 
-  one-lowest : {r s : Refusal} {a b : ℕ} → Lowest r a → Lowest s b → refusedAt r a ≡ refusedAt s b
+  one-lowest : {r s : ScreenRefusal} {a b : ℕ} → Lowest r a → Lowest s b → refusedAt r a ≡ refusedAt s b
   one-lowest {a} {b} x y =
       let same-round : x .round ≡ y .round = neither-less (not-earlier x y) (not-earlier y x) in
       let same-place : a ≡ b = neither-less (not-lower x y same-round) (not-lower y x (sym same-round)) in

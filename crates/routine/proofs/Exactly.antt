@@ -9,10 +9,10 @@ use native.Mathlib.Nat.{eq-or-lt-of-le}
 use native.Mathlib.Omega.{arith}
 use lib.Dec.{T, T-not}
 use Rattle.sm83.specs.declared.Addr.{Addr}
-use Rattle.outcome.specs.declared.Refusal.{Refusal}
-use Rattle.outcome.specs.declared.Refusal.the-variants.{FallsThrough, JumpUnmarked}
-use Rattle.outcome.specs.declared.Verdict.{Verdict}
-use Rattle.outcome.specs.declared.Verdict.the-variants.{Passes, Refused, RefusedAt}
+use Rattle.verdict.specs.declared.ScreenRefusal.{ScreenRefusal}
+use Rattle.verdict.specs.declared.ScreenRefusal.the-variants.{FallsThrough, JumpUnmarked}
+use Rattle.verdict.specs.declared.Verdict.{Verdict}
+use Rattle.verdict.specs.declared.Verdict.the-variants.{Passes, Refused, RefusedAt}
 use Rattle.routine.specs.Flow.{flowAt, past, isForbidden, endsRoutine}
 use Rattle.routine.specs.Rules.{Start, at-first, after, Rules}
 use Rattle.routine.specs.Screen.{marksOf, isMarked, walk, endsWell, landsWell, scan, verdict}
@@ -35,12 +35,12 @@ verdict-shows m first n =
     and-then m first end (Every m first end (JumpsToStarts m first end)) (Rules m first end) astray [] (strays-shows m first end marked (marked-start m first n) n refl sound stops) λ lands.
     record { allowed = λ a s. sound a s .0; fits = λ a s. sound a s .1; ends = stops; lands = λ a t s j. lands a s t j }
 
-pub found : (m : List ℕ) (first n : ℕ) (r : Refusal) (a : Addr) → verdict m first n ≡ RefusedAt r a → Finding m first (first + n) r (a .0)
+pub found : (m : List ℕ) (first n : ℕ) (r : ScreenRefusal) (a : Addr) → verdict m first n ≡ RefusedAt r a → Finding m first (first + n) r (a .0)
 found m first n r a e = subst (Shows m first (first + n) (Rules m first (first + n))) e (verdict-shows m first n)
 
 module _ {m : List ℕ} {first end : ℕ} (rules : Rules m first end) where
   -- where the rules are kept there is nothing to find
-  pub no-finding : {r : Refusal} {a : ℕ} → Finding m first end r a → ⊥
+  pub no-finding : {r : ScreenRefusal} {a : ℕ} → Finding m first end r a → ⊥
   no-finding (forbidden {a} s below bad) = T-not (isForbidden (flowAt m a)) (rules .allowed a s) bad
   no-finding (runs-past {a} s below ok far) = omega (arith, rules .fits a s)
   no-finding (falls-through {a} s sound below last bad) = T-not (endsRoutine (flowAt m a)) bad (rules .ends a s last)

@@ -5,11 +5,11 @@ use mathlib.Core.List.{List, _∷_}
 use Prim.Native.Nat.{ℕ, _≤_, _<_}
 use native.Mathlib.Omega.{arith}
 use lib.Dec.{T}
-use Rattle.outcome.specs.declared.Refusal.{Refusal}
-use Rattle.outcome.specs.declared.Refusal.the-variants.{ForbiddenOpcode, PastTheEnd, FallsThrough, JumpUnmarked}
-use Rattle.outcome.specs.declared.Verdict.{Verdict}
-use Rattle.outcome.specs.declared.Verdict.the-variants.{Passes, Refused, RefusedAt}
-use Rattle.outcome.specs.Numbers.{numberOf}
+use Rattle.verdict.specs.declared.ScreenRefusal.{ScreenRefusal}
+use Rattle.verdict.specs.declared.ScreenRefusal.the-variants.{ForbiddenOpcode, PastTheEnd, FallsThrough, JumpUnmarked}
+use Rattle.verdict.specs.declared.Verdict.{Verdict}
+use Rattle.verdict.specs.declared.Verdict.the-variants.{Passes, Refused, RefusedAt}
+use Rattle.verdict.specs.Numbers.{numberOf}
 use Rattle.routine.specs.Flow.{flowAt, past, isForbidden, endsRoutine}
 use Rattle.routine.specs.Rules.{Start, JumpsTo}
 use Rattle.routine.specs.Screen.{firstOf}
@@ -33,7 +33,7 @@ module _ (m : List ℕ) (first end : ℕ) where
   Below a P = (b : ℕ) → Start m first end b → b < a → P b
 
   -- "At each start 7 is tested before 8, and the first finding by address wins. After the walk comes 9 .. Then 10, lowest jump first."
-  pub data Finding : Refusal → ℕ → Type 0 where
+  pub data Finding : ScreenRefusal → ℕ → Type 0 where
     -- 7: "forbidden opcode"
     forbidden : {a : ℕ} → Start m first end a → Below a Sound → T (isForbidden (flowAt m a)) → Finding ForbiddenOpcode a
     -- 8: "instruction runs past the window's end"
@@ -44,7 +44,7 @@ module _ (m : List ℕ) (first end : ℕ) where
     strays : {a t : ℕ} → Start m first end a → Every Sound → Every Stops → Below a JumpsToStarts → JumpsTo m a t → (Start m first end t → ⊥) → Finding JumpUnmarked a
 
   -- no other number comes with an address
-  pub numbered : {r : Refusal} {a : ℕ} → Finding r a → (7 ≤ numberOf r) × (numberOf r ≤ 10)
+  pub numbered : {r : ScreenRefusal} {a : ℕ} → Finding r a → (7 ≤ numberOf r) × (numberOf r ≤ 10)
   numbered (forbidden s below bad) = omega arith
   numbered (runs-past s below ok far) = omega arith
   numbered (falls-through s sound below last bad) = omega arith

@@ -9,9 +9,9 @@ use native.Mathlib.Omega.{arith}
 use lib.Dec.{T, T-not, not-T, eqb, eqb→eq}
 use borrow.Author.Tests.{eq-eqb}
 use mir.Facts.{and-yes, yes-and, T-not-not}
-use Rattle.outcome.specs.declared.Refusal.{Refusal}
-use Rattle.outcome.specs.declared.Refusal.the-variants.{FallsThrough, JumpUnmarked}
-use Rattle.outcome.specs.declared.Verdict.{Verdict}
+use Rattle.verdict.specs.declared.ScreenRefusal.{ScreenRefusal}
+use Rattle.verdict.specs.declared.ScreenRefusal.the-variants.{FallsThrough, JumpUnmarked}
+use Rattle.verdict.specs.declared.Verdict.{Verdict}
 use Rattle.sm83.specs.Basics.{if_then_else_}
 use Rattle.routine.specs.Flow.{flowAt, past, endsRoutine}
 use Rattle.routine.specs.Rules.{Start}
@@ -22,7 +22,7 @@ use Rattle.routine.proofs.Findings.{Sound, Stops, JumpsToStarts, Every,
 
 module _ (m : List ℕ) (first end : ℕ) (marked : ℕ → Bool) (is-start : (a : ℕ) → T (marked a) ↔ Start m first end a) where
   -- any test, with what it means to pass it and what finding it makes to fail it
-  module _ (r : Refusal) (test : ℕ → Bool) (P : ℕ → Type 0) (passes : (a : ℕ) → T (test a) → P a) (fails : (a : ℕ) → Start m first end a → Below m first end a P → T (not (test a)) → Finding m first end r a) where
+  module _ (r : ScreenRefusal) (test : ℕ → Bool) (P : ℕ → Type 0) (passes : (a : ℕ) → T (test a) → P a) (fails : (a : ℕ) → Start m first end a → Below m first end a P → T (not (test a)) → Finding m first end r a) where
     abbrev Told : Verdict → Type 0
     Told = Shows m first end (Every m first end P)
 

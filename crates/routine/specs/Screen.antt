@@ -4,16 +4,16 @@ use mathlib.Core.List.{List, [], _∷_}
 use Prim.Native.Nat.{ℕ, zero, suc, _+_, _-_}
 use lib.Dec.{eqb, leb, ltb}
 use lib.ListN.{getD, length, replicate}
-use Rattle.outcome.specs.declared.Refusal.{Refusal}
-use Rattle.outcome.specs.declared.Refusal.the-variants.{MemoryLength, WindowReversed, WindowTooLong, MarksLength, ForbiddenOpcode, PastTheEnd, FallsThrough, JumpUnmarked}
-use Rattle.outcome.specs.declared.Verdict.{Verdict}
-use Rattle.outcome.specs.declared.Verdict.the-variants.{Passes, Refused, RefusedAt}
+use Rattle.verdict.specs.declared.ScreenRefusal.{ScreenRefusal}
+use Rattle.verdict.specs.declared.ScreenRefusal.the-variants.{MemoryLength, WindowReversed, WindowTooLong, MarksLength, ForbiddenOpcode, PastTheEnd, FallsThrough, JumpUnmarked}
+use Rattle.verdict.specs.declared.Verdict.{Verdict}
+use Rattle.verdict.specs.declared.Verdict.the-variants.{Passes, Refused, RefusedAt}
 use Rattle.sm83.specs.Basics.{if_then_else_}
 use Rattle.sm83.specs.State.{addr}
 use Rattle.opcodes.specs.Instruction.{operands}
 use Rattle.routine.specs.Flow.{instructionAt, flowAt, past, isForbidden, endsRoutine, jumpsWhere}
 
-abbrev pub refusedAt : Refusal → ℕ → Verdict
+abbrev pub refusedAt : ScreenRefusal → ℕ → Verdict
 refusedAt r a = RefusedAt r (addr a)
 
 -- The walk. Of the instruction that began at `start`, k bytes are still to come; n bytes of the window are left, from `at` on.
@@ -53,7 +53,7 @@ abbrev pub landsWell : List ℕ → (ℕ → Bool) → ℕ → Bool
 landsWell m marked a = jumpsWhere marked (flowAt m a)
 
 -- the lowest of n addresses from `at` on that is marked and fails the test
-unfoldable pub scan : Refusal → (ℕ → Bool) → (ℕ → Bool) → ℕ → ℕ → Verdict
+unfoldable pub scan : ScreenRefusal → (ℕ → Bool) → (ℕ → Bool) → ℕ → ℕ → Verdict
 scan r marked test at zero = Passes
 scan r marked test at (suc n) =
     let rest : Verdict = scan r marked test (suc at) n in
@@ -88,7 +88,7 @@ marksAfter Passes m first n = marksOf m first n
 marksAfter (Refused r) m first n = replicate n 0
 marksAfter (RefusedAt r a) m first n = replicate n 0
 
-abbrev pub untouched : Refusal → List ℕ → Screened
+abbrev pub untouched : ScreenRefusal → List ℕ → Screened
 untouched r marks = record { verdict = Refused r; marks = marks }
 
 abbrev pub longestWindow : ℕ

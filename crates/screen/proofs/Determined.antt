@@ -2,7 +2,7 @@
 use mathlib.Core.Path.{_≡_, sym, _∙_}
 use denote.Ref.{now}
 use Rattle.sm83.proofs.OneAnswer.{AnyInput}
-use Rattle.outcome.specs.declared.Verdict.{Verdict}
+use Rattle.verdict.specs.declared.Verdict.{Verdict}
 use Rattle.screen.proofs.screen.screen.Reads.{Pre, Post}
 
 pub takes-any-input : AnyInput Pre

@@ -6,9 +6,9 @@ use native.Mathlib.Omega.{arith}
 use lib.ListN.{length, replicate}
 use types.Run.{OneOf, miss}
 use denote.Enum.Declared.{tagOf}
-use Rattle.outcome.specs.declared.Verdict.{Verdict}
-use Rattle.outcome.specs.declared.Verdict.the-variants.{Passes, Refused, RefusedAt}
-use Rattle.outcome.proofs.Verdict.{the-type}
+use Rattle.verdict.specs.declared.Verdict.{Verdict}
+use Rattle.verdict.specs.declared.Verdict.the-variants.{Passes, Refused, RefusedAt}
+use Rattle.verdict.proofs.Verdict.{the-type}
 use Rattle.routine.specs.Screen.{firstOf}
 use Rattle.walks.specs.Parts.{settled}
 

@@ -4,10 +4,10 @@ use mathlib.Core.List.{List}
 use Prim.Native.Nat.{ℕ, _+_, _-_}
 use native.Mathlib.Omega.{arith}
 use lib.ListN.{length, replicate, length-replicate}
-use Rattle.outcome.specs.declared.Refusal.{Refusal}
-use Rattle.outcome.specs.declared.Refusal.the-variants.{JumpUnmarked}
-use Rattle.outcome.specs.declared.Verdict.{Verdict}
-use Rattle.outcome.specs.declared.Verdict.the-variants.{Passes, Refused, RefusedAt}
+use Rattle.verdict.specs.declared.ScreenRefusal.{ScreenRefusal}
+use Rattle.verdict.specs.declared.ScreenRefusal.the-variants.{JumpUnmarked}
+use Rattle.verdict.specs.declared.Verdict.{Verdict}
+use Rattle.verdict.specs.declared.Verdict.the-variants.{Passes, Refused, RefusedAt}
 use Rattle.routine.specs.Screen.{walk, scan, marksOf, isMarked, landsWell, marksAfter, verdict, Screened, screen}
 use Rattle.routine.proofs.Marks.{marks-length}
 use Rattle.routine.proofs.Before.{Early, Admitted, refuses, admits}
@@ -61,7 +61,7 @@ module _ (m : List ℕ) (first last : ℕ) (marks : List ℕ) where
   answers v left e = (sym (ap (λ (s : Screened). s .verdict) e), sym (ap (λ (s : Screened). s .marks) e))
 
   -- 1, 4, 5, 6: "marks untouched"
-  pub early : {r : Refusal} → Early m first last marks r → Answers (Refused r) marks
+  pub early : {r : ScreenRefusal} → Early m first last marks r → Answers (Refused r) marks
   early {r} e = answers (Refused r) marks (refuses m first last marks e)
 
   -- 7, 8, 9, 10: "marks all 0", or none applies

@@ -3,11 +3,11 @@ ghost use mathlib.Core.Path.{_≡_};
 ghost use lib.ListN.{length};
 ghost use Rattle.routine.specs.Screen.{verdict, screen};
 ghost use Rattle.walks.specs.Parts.{Inside, settled, Judged};
-use outcome::Refusal;
-use outcome::Verdict;
 use shapes::window::clear;
 use sm83::Addr;
 use targets::strays;
+use verdict::ScreenRefusal;
+use verdict::Verdict;
 use walks::walk::walk;
 
 const LONGEST_WINDOW: usize = 4096;
@@ -44,17 +44,17 @@ pub fn screen(mem: &[u8], first: Addr, last: Addr, marks: &mut [u8]) -> Verdict
     ensures { λ r. ⌜ now (marks .exit) ≡ screen (now (mem .entry)) (first .0) (last .0) (now (marks .entry)) .marks ⌝ }
 {
     if mem.len() != 65536 {
-        return Verdict::Refused(Refusal::MemoryLength);
+        return Verdict::Refused(ScreenRefusal::MemoryLength);
     }
     if last.0 < first.0 {
-        return Verdict::Refused(Refusal::WindowReversed);
+        return Verdict::Refused(ScreenRefusal::WindowReversed);
     }
     let n = (last.0 - first.0) as usize + 1;
     if n > LONGEST_WINDOW {
-        return Verdict::Refused(Refusal::WindowTooLong);
+        return Verdict::Refused(ScreenRefusal::WindowTooLong);
     }
     if marks.len() != n {
-        return Verdict::Refused(Refusal::MarksLength);
+        return Verdict::Refused(ScreenRefusal::MarksLength);
     }
     settle(judge(mem, first, marks), marks)
 }

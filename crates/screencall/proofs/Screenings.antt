@@ -5,9 +5,9 @@ use mathlib.Core.List.{List}
 use Prim.Native.Nat.{ℕ}
 use lib.ListN.{length}
 use borrow.Author.Tests.{eq-eqb, ne-eqb}
-use Rattle.outcome.specs.declared.Verdict.{Verdict}
+use Rattle.verdict.specs.declared.Verdict.{Verdict}
 use Rattle.sm83.specs.Basics.{if_then_else_}
-use Rattle.outcome.specs.Numbers.{verdictNumber}
+use Rattle.verdict.specs.Numbers.{verdictNumber}
 use Rattle.routine.specs.Screen.{screen}
 use Rattle.verdicts.specs.ScreenBlock.{verdictBytes}
 use Rattle.screencall.specs.Screened.{leftByScreen, screenBlocks}

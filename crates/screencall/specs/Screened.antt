@@ -4,7 +4,7 @@ use Prim.Native.Nat.{ℕ}
 use lib.Dec.{eqb}
 use lib.ListN.{length}
 use Rattle.sm83.specs.Basics.{if_then_else_}
-use Rattle.outcome.specs.Numbers.{verdictNumber}
+use Rattle.verdict.specs.Numbers.{verdictNumber}
 use Rattle.routine.specs.Screen.{Screened, screen}
 use Rattle.verdicts.specs.ScreenBlock.{verdictBytes}
 

@@ -8,16 +8,16 @@ use lib.Dec.{eqb}
 use lib.ListN.{length, getD}
 use borrow.Author.Tests.{le-leb, eq-eqb, ne-eqb}
 use Rattle.sm83.specs.declared.Addr.{Addr}
-use Rattle.outcome.specs.declared.Refusal.{Refusal}
-use Rattle.outcome.specs.declared.Refusal.the-variants.{JumpUnmarked}
-use Rattle.outcome.specs.declared.Verdict.{Verdict}
-use Rattle.outcome.specs.declared.Verdict.the-variants.{Passes, RefusedAt}
+use Rattle.verdict.specs.declared.ScreenRefusal.{ScreenRefusal}
+use Rattle.verdict.specs.declared.ScreenRefusal.the-variants.{JumpUnmarked}
+use Rattle.verdict.specs.declared.Verdict.{Verdict}
+use Rattle.verdict.specs.declared.Verdict.the-variants.{Passes, RefusedAt}
 use Rattle.sm83.specs.Basics.{if_then_else_}
 use Rattle.sm83.specs.State.{addr}
 use Rattle.routine.specs.Screen.{refusedAt, isMarked, landsWell, scan}
 use Rattle.walks.specs.Parts.{straysFrom}
 
-scan-one : (r : Refusal) (marked test : ℕ → Bool) (at n to left : ℕ) → to ≡ at + 1 → n ≡ left + 1 → scan r marked test at n ≡ (if marked at && not (test at) then refusedAt r at else scan r marked test to left)
+scan-one : (r : ScreenRefusal) (marked test : ℕ → Bool) (at n to left : ℕ) → to ≡ at + 1 → n ≡ left + 1 → scan r marked test at n ≡ (if marked at && not (test at) then refusedAt r at else scan r marked test to left)
 unfolding scan
 scan-one r marked test at zero to left e h = absurd (omega arith)
 scan-one r marked test at (suc n) to left e h =

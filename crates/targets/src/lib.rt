@@ -6,13 +6,13 @@ ghost use Rattle.sm83.specs.Basics.{word, signed, offset, next};
 ghost use Rattle.definition.specs.Bus.{byteAt};
 ghost use Rattle.routine.specs.Screen.{isMarked, landsWell};
 ghost use Rattle.walks.specs.Parts.{Inside, straysFrom};
-use outcome::Refusal;
-use outcome::Verdict;
 use shapes::class::Class;
 use shapes::window::address;
 use shapes::window::shape_at;
 use sm83::Addr;
 use sm83::registers::pair;
+use verdict::ScreenRefusal;
+use verdict::Verdict;
 
 // A signed byte as a word.
 fn extended(e: u8) -> u16
@@ -93,7 +93,7 @@ pub fn strays(mem: &[u8], first: Addr, marks: &[u8]) -> Verdict
         if marks[i] == 1 {
             let at = address(first, i);
             if !lands(mem, first, marks, at) {
-                return Verdict::RefusedAt(Refusal::JumpUnmarked, at);
+                return Verdict::RefusedAt(ScreenRefusal::JumpUnmarked, at);
             }
         }
         i += 1;

@@ -5,7 +5,6 @@ use line::LAST;
 use line::Line;
 use line::MAP;
 use line::MARKS;
-use outcome::Verdict;
 use picture::kinds::draw;
 use saying::page::within;
 use saying::said;
@@ -14,6 +13,7 @@ use screen::screen::screen;
 use sentences::after;
 use sm83::Addr;
 use tally::count;
+use verdict::Verdict;
 
 fn mark(marks: &[u8], i: usize) -> bool {
     if i < marks.len() {

@@ -3,9 +3,9 @@ use mathlib.Core.Path.{_≡_, refl, sym, subst}
 use mathlib.Core.List.{List, _++_}
 use Prim.Native.Nat.{ℕ}
 use lib.ListN.{length, drop}
-use Rattle.outcome.specs.declared.Verdict.{Verdict}
+use Rattle.verdict.specs.declared.Verdict.{Verdict}
 use Rattle.definition.specs.Bus.{byteAt}
-use Rattle.outcome.specs.Numbers.{verdictNumber}
+use Rattle.verdict.specs.Numbers.{verdictNumber}
 use Rattle.fields.specs.Bytes.{wordAt}
 use Rattle.blocks.specs.StateBlock.{flagAt}
 use Rattle.verdicts.specs.ScreenBlock.{named, address, verdictFields, verdictBytes}

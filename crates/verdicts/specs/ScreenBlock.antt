@@ -3,11 +3,11 @@ use mathlib.Core.Bool.{Bool, true, false}
 use mathlib.Core.List.{List, _∷_}
 use Prim.Native.Nat.{ℕ}
 use Rattle.sm83.specs.declared.Addr.{Addr}
-use Rattle.outcome.specs.declared.Verdict.{Verdict}
-use Rattle.outcome.specs.declared.Verdict.the-variants.{Passes, Refused, RefusedAt}
+use Rattle.verdict.specs.declared.Verdict.{Verdict}
+use Rattle.verdict.specs.declared.Verdict.the-variants.{Passes, Refused, RefusedAt}
 use Rattle.sm83.specs.Basics.{bit}
 use Rattle.sm83.specs.State.{addr}
-use Rattle.outcome.specs.Numbers.{verdictNumber}
+use Rattle.verdict.specs.Numbers.{verdictNumber}
 use Rattle.fields.specs.Bytes.{wordBytes, filled}
 
 abbrev pub named : Verdict → Bool

@@ -3,8 +3,8 @@ ghost use mathlib.Core.Path.{_≡_};
 ghost use Rattle.verdicts.specs.ScreenBlock.{named, address, verdictBytes};
 use fields::bytes::flag_byte;
 use fields::bytes::put_word;
-use outcome::Verdict;
 use sm83::Addr;
+use verdict::Verdict;
 
 pub const VERDICT_LENGTH: usize = 4;
 

@@ -9,10 +9,10 @@ use native.Mathlib.Omega.{arith}
 use lib.Dec.{eqb}
 use lib.ListN.{getD}
 use borrow.Author.Tests.{le-leb, eq-eqb, ne-eqb}
-use Rattle.outcome.specs.declared.Refusal.{Refusal}
-use Rattle.outcome.specs.declared.Refusal.the-variants.{FallsThrough}
-use Rattle.outcome.specs.declared.Verdict.{Verdict}
-use Rattle.outcome.specs.declared.Verdict.the-variants.{Passes}
+use Rattle.verdict.specs.declared.ScreenRefusal.{ScreenRefusal}
+use Rattle.verdict.specs.declared.ScreenRefusal.the-variants.{FallsThrough}
+use Rattle.verdict.specs.declared.Verdict.{Verdict}
+use Rattle.verdict.specs.declared.Verdict.the-variants.{Passes}
 use Rattle.sm83.specs.Basics.{if_then_else_}
 use Rattle.opcodes.specs.Instruction.{operands}
 use Rattle.routine.specs.Flow.{instructionAt, flowAt, isForbidden, endsRoutine}
@@ -21,7 +21,7 @@ use Rattle.walks.specs.Parts.{fallsAt, fallsFrom}
 use Rattle.walks.proofs.Steps.{lastFrom}
 
 -- a choice that passes took the way that may
-not-refused : (b : Bool) (r : Refusal) (a : ℕ) (v : Verdict) → (if b then refusedAt r a else v) ≡ Passes → v ≡ Passes
+not-refused : (b : Bool) (r : ScreenRefusal) (a : ℕ) (v : Verdict) → (if b then refusedAt r a else v) ≡ Passes → v ≡ Passes
 not-refused true r a v e = let z : _≡_ {A = ℕ} 0 1 = cc in absurd (omega arith)
 not-refused false r a v e = e
 

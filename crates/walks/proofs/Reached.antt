@@ -6,10 +6,10 @@ use Prim.Native.Nat.{ℕ, suc, _+_, _-_, _≤_, _<_}
 use native.Mathlib.Omega.{arith}
 use lib.ListN.{length, take, drop, set, replicate, length-set, replicate-append-replicate}
 use lib.Seq.{set-at, take-add, drop-drop, take-all, length-take-le}
-use Rattle.outcome.specs.declared.Refusal.{Refusal}
-use Rattle.outcome.specs.declared.Refusal.the-variants.{ForbiddenOpcode, PastTheEnd}
-use Rattle.outcome.specs.declared.Verdict.{Verdict}
-use Rattle.outcome.specs.declared.Verdict.the-variants.{Passes, Refused, RefusedAt}
+use Rattle.verdict.specs.declared.ScreenRefusal.{ScreenRefusal}
+use Rattle.verdict.specs.declared.ScreenRefusal.the-variants.{ForbiddenOpcode, PastTheEnd}
+use Rattle.verdict.specs.declared.Verdict.{Verdict}
+use Rattle.verdict.specs.declared.Verdict.the-variants.{Passes, Refused, RefusedAt}
 use Rattle.opcodes.specs.Instruction.{operands}
 use Rattle.routine.specs.Flow.{instructionAt, flowAt, isForbidden}
 use Rattle.routine.specs.Screen.{refusedAt, walk, firstOf, marksFrom, marksOf}
@@ -91,7 +91,7 @@ module _ (m : List ℕ) (first n : ℕ) where
               ∙ ap (λ (l : List ℕ). take at whole ++ 1 ∷ l) (replicate-append-replicate ops left 0)
 
   -- 7 or 8 decides
-  pub stopped : (f : Refusal) (a : ℕ) (marks : List ℕ) → walk m first 0 first n ≡ refusedAt f a → Walked m first n (refusedAt f a) marks
+  pub stopped : (f : ScreenRefusal) (a : ℕ) (marks : List ℕ) → walk m first 0 first n ≡ refusedAt f a → Walked m first n (refusedAt f a) marks
   stopped f a marks found =
       record {
         finding = sym (ap (λ (v : Verdict). firstOf (v ∷ fallsFrom m first n ∷ [])) found);

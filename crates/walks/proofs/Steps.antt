@@ -5,7 +5,7 @@ use mathlib.Core.List.{List, _∷_}
 use Prim.Native.Nat.{ℕ, zero, suc, _+_, _≤_, _<_}
 use native.Mathlib.Omega.{arith}
 use lib.ListN.{take, drop, replicate}
-use Rattle.outcome.specs.declared.Refusal.the-variants.{ForbiddenOpcode, PastTheEnd}
+use Rattle.verdict.specs.declared.ScreenRefusal.the-variants.{ForbiddenOpcode, PastTheEnd}
 use Rattle.opcodes.specs.Instruction.{operands, lengthOf}
 use Rattle.routine.specs.Flow.{instructionAt, flowAt, isForbidden}
 use Rattle.routine.specs.Screen.{refusedAt, walk, marksFrom}

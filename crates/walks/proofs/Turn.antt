@@ -6,8 +6,8 @@ use Prim.Native.Nat.{ℕ, _+_, _-_, _≤_, _<_}
 use native.Mathlib.Omega.{arith}
 use lib.ListN.{set}
 use Rattle.sm83.specs.declared.Addr.{Addr}
-use Rattle.outcome.specs.declared.Refusal.the-variants.{ForbiddenOpcode, PastTheEnd}
-use Rattle.outcome.specs.declared.Verdict.the-variants.{RefusedAt}
+use Rattle.verdict.specs.declared.ScreenRefusal.the-variants.{ForbiddenOpcode, PastTheEnd}
+use Rattle.verdict.specs.declared.Verdict.the-variants.{RefusedAt}
 use Rattle.sm83.specs.State.{addr}
 use Rattle.routine.specs.Flow.{instructionAt, flowAt, isForbidden}
 use Rattle.shapes.specs.declared.class.Shape.{Shape}

@@ -3,9 +3,9 @@ use mathlib.Core.Path.{_≡_}
 use mathlib.Core.List.{List, [], _∷_}
 use Prim.Native.Nat.{ℕ, _+_, _-_, _≤_, _<_}
 use lib.ListN.{length, replicate}
-use Rattle.outcome.specs.declared.Refusal.the-variants.{FallsThrough, JumpUnmarked}
-use Rattle.outcome.specs.declared.Verdict.{Verdict}
-use Rattle.outcome.specs.declared.Verdict.the-variants.{Passes, Refused, RefusedAt}
+use Rattle.verdict.specs.declared.ScreenRefusal.the-variants.{FallsThrough, JumpUnmarked}
+use Rattle.verdict.specs.declared.Verdict.{Verdict}
+use Rattle.verdict.specs.declared.Verdict.the-variants.{Passes, Refused, RefusedAt}
 use Rattle.sm83.specs.Basics.{if_then_else_}
 use Rattle.routine.specs.Flow.{flowAt, endsRoutine}
 use Rattle.routine.specs.Screen.{refusedAt, walk, scan, firstOf, marksOf, isMarked, endsWell, landsWell, verdict}

@@ -2,11 +2,11 @@
 ghost use mathlib.Core.Path.{_≡_};
 ghost use lib.ListN.{length, replicate};
 ghost use Rattle.walks.specs.Parts.{fallsAt, Inside, Walked};
-use outcome::Refusal;
-use outcome::Verdict;
 use shapes::window::address;
 use shapes::window::shape_at;
 use sm83::Addr;
+use verdict::ScreenRefusal;
+use verdict::Verdict;
 
 // 9: "the last instruction must be an unconditional JP, JR or RET"
 fn falls_through(mem: &[u8], last: Addr) -> Verdict
@@ -18,7 +18,7 @@ fn falls_through(mem: &[u8], last: Addr) -> Verdict
     if class.ends_routine() {
         Verdict::Passes
     } else {
-        Verdict::RefusedAt(Refusal::FallsThrough, last)
+        Verdict::RefusedAt(ScreenRefusal::FallsThrough, last)
     }
 }
 
@@ -40,10 +40,10 @@ pub fn walk(mem: &[u8], first: Addr, marks: &mut [u8]) -> Verdict
         let forbidden = class.is_forbidden();
         let too_long = n - at < length;
         if forbidden {
-            return Verdict::RefusedAt(Refusal::ForbiddenOpcode, here);
+            return Verdict::RefusedAt(ScreenRefusal::ForbiddenOpcode, here);
         }
         if too_long {
-            return Verdict::RefusedAt(Refusal::PastTheEnd, here);
+            return Verdict::RefusedAt(ScreenRefusal::PastTheEnd, here);
         }
         marks[at] = 1;
         last = here;

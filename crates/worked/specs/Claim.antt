@@ -8,7 +8,8 @@ use Rattle.sm83.specs.Basics.{bit}
 use Rattle.definition.specs.Bus.{Ran, plain, byteAt, mcycles}
 use Rattle.sm83.specs.State.{pairHL}
 use Rattle.sm83.specs.Flags.{flagH, flagC}
-use Rattle.outcome.specs.Numbers.{outcomeNumber, verdictNumber}
+use Rattle.outcome.specs.Numbers.{outcomeNumber}
+use Rattle.verdict.specs.Numbers.{verdictNumber}
 use Rattle.definition.specs.Step.{Ended, stepOn}
 use Rattle.routine.specs.Screen.{Screened, screen}
 

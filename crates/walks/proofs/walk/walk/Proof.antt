@@ -5,7 +5,7 @@ use native.Mathlib.Omega.{arith}
 use borrow.Author.Needs.{needs}
 use borrow.Author.Tests.{ltb-true, ltb-false}
 use lib.ListN.{length}
-use Rattle.outcome.specs.declared.Verdict.{Verdict}
+use Rattle.verdict.specs.declared.Verdict.{Verdict}
 use Rattle.walks.specs.Parts.{Walked}
 use Rattle.walks.proofs.Reached.{Reached, begun, ended}
 use Rattle.walks.proofs.Turn.{Turn, some-length, turn-7, turn-8, turn-on}

@@ -1,0 +1,2 @@
+-- The document's numbers.
+pub mod Numbers

@@ -1,0 +1,25 @@
+-- The number of each refusal of the screen and of each verdict. Every promise uses these.
+use Prim.Native.Nat.{ℕ}
+use Rattle.outcome.specs.declared.Refusal.the-variants as step
+use Rattle.outcome.specs.Numbers as step-numbers
+use Rattle.verdict.specs.declared.ScreenRefusal.{ScreenRefusal}
+use Rattle.verdict.specs.declared.ScreenRefusal.the-variants.{MemoryLength, WindowReversed, WindowTooLong, MarksLength, ForbiddenOpcode, PastTheEnd, FallsThrough, JumpUnmarked}
+use Rattle.verdict.specs.declared.Verdict.{Verdict}
+use Rattle.verdict.specs.declared.Verdict.the-variants.{Passes, Refused, RefusedAt}
+
+-- the table of "When the core says no": what the screen gives; 1 is a step's 1
+abbrev pub numberOf : ScreenRefusal → ℕ
+numberOf MemoryLength = step-numbers.numberOf step.MemoryLength
+numberOf WindowReversed = 4
+numberOf WindowTooLong = 5
+numberOf MarksLength = 6
+numberOf ForbiddenOpcode = 7
+numberOf PastTheEnd = 8
+numberOf FallsThrough = 9
+numberOf JumpUnmarked = 10
+
+-- 0 if it passes, else the refusal's number
+abbrev pub verdictNumber : Verdict → ℕ
+verdictNumber Passes = 0
+verdictNumber (Refused r) = numberOf r
+verdictNumber (RefusedAt r a) = numberOf r
