@@ -7,7 +7,8 @@ use Rattle.sm83.specs.declared.HaltMode.the-variants.{NotHalting}
 use Rattle.outcome.specs.declared.Outcome.{Outcome}
 use Rattle.outcome.specs.declared.Outcome.the-variants.{Halting, RunningHDMA, Stopped}
 use Rattle.sm83.specs.Basics.{if_then_else_}
-use Rattle.definition.specs.Bus.{Access, Idle, Bus, Ran, runOn, isInterrupt}
+use Rattle.definition.specs.Bus.{Access, Idle, Bus, Ran, runOn}
+use Rattle.outcome.specs.Numbers.{isPending}
 use Rattle.sm83.specs.State.{pc, setHalt}
 use Rattle.definition.specs.Execution.{Does, _>>=_, _>>_, give, wait, asked}
 use Rattle.definition.specs.Step.{isAsleep, dispatch, instruction, awake, woken, step, Ended, ended, stepTree}
@@ -17,13 +18,13 @@ use Rattle.definition.proofs.Compose.{after}
 -- with "one more idle access if not DMG".
 pub data Woke {W : Type 0} (b : Bus W) (s : Cpu) (m : W) : List Access → Cpu → W → Type 0 where
   was-awake : isAsleep (s .halt) ≡ false → Woke b s m [] s m
-  woke-dmg : isAsleep (s .halt) ≡ true → isInterrupt (b .peeks (b .afterIdle m)) ≡ true → s .dmg ≡ true → Woke b s m (Idle ∷ []) (setHalt NotHalting s) (b .afterPeek (b .afterIdle m))
-  woke-cgb : isAsleep (s .halt) ≡ true → isInterrupt (b .peeks (b .afterIdle m)) ≡ true → s .dmg ≡ false → Woke b s m (Idle ∷ Idle ∷ []) (setHalt NotHalting s) (b .afterIdle (b .afterPeek (b .afterIdle m)))
+  woke-dmg : isAsleep (s .halt) ≡ true → isPending (b .peeks (b .afterIdle m)) ≡ true → s .dmg ≡ true → Woke b s m (Idle ∷ []) (setHalt NotHalting s) (b .afterPeek (b .afterIdle m))
+  woke-cgb : isAsleep (s .halt) ≡ true → isPending (b .peeks (b .afterIdle m)) ≡ true → s .dmg ≡ false → Woke b s m (Idle ∷ Idle ∷ []) (setHalt NotHalting s) (b .afterIdle (b .afterPeek (b .afterIdle m)))
 
 -- Point 4 does not apply, and leaves this memory: IME is clear, or nothing is pending.
 pub data Passed {W : Type 0} (b : Bus W) (s : Cpu) (m : W) : W → Type 0 where
   ime-clear : s .ime ≡ false → Passed b s m m
-  none-pending : s .ime ≡ true → isInterrupt (b .peeks m) ≡ false → Passed b s m (b .afterPeek m)
+  none-pending : s .ime ≡ true → isPending (b .peeks m) ≡ false → Passed b s m (b .afterPeek m)
 
 abbrev pub endedAs : {W : Type 0} → Ended → W → List Access → Ran W Ended
 endedAs e m l = record { value = e; memory = m; accesses = l }
@@ -32,13 +33,13 @@ endedAs e m l = record { value = e; memory = m; accesses = l }
 pub data Course {W : Type 0} (b : Bus W) (s : Cpu) (m : W) : Ran W Ended → Type 0 where
   point1 : s .stopped ≡ true → Course b s m (endedAs (record { outcome = Stopped; cpu = s }) (b .afterIdle m) (Idle ∷ []))
   point2 : s .stopped ≡ false → s .hdma ≡ true → Course b s m (endedAs (record { outcome = RunningHDMA; cpu = s }) (b .afterIdle m) (Idle ∷ []))
-  point3 : s .stopped ≡ false → s .hdma ≡ false → isAsleep (s .halt) ≡ true → isInterrupt (b .peeks (b .afterIdle m)) ≡ false → Course b s m (endedAs (record { outcome = Halting; cpu = s }) (b .afterPeek (b .afterIdle m)) (Idle ∷ []))
-  point4 : s .stopped ≡ false → s .hdma ≡ false → (l : List Access) (t : Cpu) (w : W) → Woke b s m l t w → t .ime ≡ true → isInterrupt (b .peeks w) ≡ true → Course b s m (after l (runOn b (dispatch t ended) (b .afterPeek w)))
+  point3 : s .stopped ≡ false → s .hdma ≡ false → isAsleep (s .halt) ≡ true → isPending (b .peeks (b .afterIdle m)) ≡ false → Course b s m (endedAs (record { outcome = Halting; cpu = s }) (b .afterPeek (b .afterIdle m)) (Idle ∷ []))
+  point4 : s .stopped ≡ false → s .hdma ≡ false → (l : List Access) (t : Cpu) (w : W) → Woke b s m l t w → t .ime ≡ true → isPending (b .peeks w) ≡ true → Course b s m (after l (runOn b (dispatch t ended) (b .afterPeek w)))
   points5to7 : s .stopped ≡ false → s .hdma ≡ false → (l : List Access) (t : Cpu) (w v : W) → Woke b s m l t w → Passed b t w v → Course b s m (after l (runOn b (instruction t ended) v))
 
 -- the definition's step from point 3, 2 and 1 on, by the answers to its questions
 abbrev from3 : Bool → Does Ended Outcome
-from3 a = if a then (do wait; i ← asked; if isInterrupt i then woken else give Halting) else awake
+from3 a = if a then (do wait; i ← asked; if isPending i then woken else give Halting) else awake
 
 abbrev from2 : Bool → Bool → Does Ended Outcome
 from2 h a = if h then (do wait; give RunningHDMA) else from3 a
@@ -52,32 +53,32 @@ module _ {W : Type 0} (b : Bus W) (s : Cpu) (m : W) where
 
   module _ (running : s .stopped ≡ false) (no-hdma : s .hdma ≡ false) where
     module _ (l : List Access) (t : Cpu) (w : W) (woke : Woke b s m l t w) where
-      by-pending : (p : Bool) → t .ime ≡ true → isInterrupt (b .peeks w) ≡ p → Runs (if p then dispatch else instruction) t (b .afterPeek w) l
+      by-pending : (p : Bool) → t .ime ≡ true → isPending (b .peeks w) ≡ p → Runs (if p then dispatch else instruction) t (b .afterPeek w) l
       by-pending true i e = point4 running no-hdma l t w woke i e
       by-pending false i e = points5to7 running no-hdma l t w (b .afterPeek w) woke (none-pending i e)
 
-      by-ime : (i : Bool) → t .ime ≡ i → Runs (if i then (do j ← asked; if isInterrupt j then dispatch else instruction) else instruction) t w l
+      by-ime : (i : Bool) → t .ime ≡ i → Runs (if i then (do j ← asked; if isPending j then dispatch else instruction) else instruction) t w l
       unfolding runOn
-      by-ime true e = by-pending (isInterrupt (b .peeks w)) e refl
+      by-ime true e = by-pending (isPending (b .peeks w)) e refl
       by-ime false e = points5to7 running no-hdma l t w w woke (ime-clear e)
 
       by-awake : Runs awake t w l
       unfolding awake
       by-awake = by-ime (t .ime) refl
 
-    by-dmg : (d : Bool) → isAsleep (s .halt) ≡ true → isInterrupt (b .peeks (b .afterIdle m)) ≡ true → s .dmg ≡ d → Runs (if d then awake else (do wait; awake)) (setHalt NotHalting s) (b .afterPeek (b .afterIdle m)) (Idle ∷ [])
+    by-dmg : (d : Bool) → isAsleep (s .halt) ≡ true → isPending (b .peeks (b .afterIdle m)) ≡ true → s .dmg ≡ d → Runs (if d then awake else (do wait; awake)) (setHalt NotHalting s) (b .afterPeek (b .afterIdle m)) (Idle ∷ [])
     unfolding runOn
     by-dmg true a p e = by-awake (Idle ∷ []) _ _ (woke-dmg a p e)
     by-dmg false a p e = by-awake (Idle ∷ Idle ∷ []) _ _ (woke-cgb a p e)
 
-    by-rousing : (p : Bool) → isAsleep (s .halt) ≡ true → isInterrupt (b .peeks (b .afterIdle m)) ≡ p → Runs (if p then woken else give Halting) s (b .afterPeek (b .afterIdle m)) (Idle ∷ [])
+    by-rousing : (p : Bool) → isAsleep (s .halt) ≡ true → isPending (b .peeks (b .afterIdle m)) ≡ p → Runs (if p then woken else give Halting) s (b .afterPeek (b .afterIdle m)) (Idle ∷ [])
     unfolding runOn
     by-rousing true a e = by-dmg (s .dmg) a e refl
     by-rousing false a e = point3 running no-hdma a e
 
     by-sleep : (a : Bool) → isAsleep (s .halt) ≡ a → Runs (from3 a) s m []
     unfolding runOn
-    by-sleep true e = by-rousing (isInterrupt (b .peeks (b .afterIdle m))) e refl
+    by-sleep true e = by-rousing (isPending (b .peeks (b .afterIdle m))) e refl
     by-sleep false e = by-awake [] s m (was-awake e)
 
   by-hdma : (h : Bool) → s .stopped ≡ false → s .hdma ≡ h → Runs (from2 h (isAsleep (s .halt))) s m []
@@ -107,7 +108,7 @@ module _ {W : Type 0} (b : Bus W) where
       ∙ chosen (do wait; give RunningHDMA) (from3 (isAsleep (s .halt))) s m h
       ∙ ap (λ (z : Bool). runOn b (from3 z s ended) m) a
 
-  roused : (s : Cpu) (m : W) {d : Bool} → isInterrupt (b .peeks (b .afterIdle m)) ≡ true → s .dmg ≡ d → runOn b (from3 true s ended) m ≡ after (Idle ∷ []) (runOn b ((if d then awake else (do wait; awake)) (setHalt NotHalting s) ended) (b .afterPeek (b .afterIdle m)))
+  roused : (s : Cpu) (m : W) {d : Bool} → isPending (b .peeks (b .afterIdle m)) ≡ true → s .dmg ≡ d → runOn b (from3 true s ended) m ≡ after (Idle ∷ []) (runOn b ((if d then awake else (do wait; awake)) (setHalt NotHalting s) ended) (b .afterPeek (b .afterIdle m)))
   unfolding runOn
   roused s m p d =
       ap (after (Idle ∷ [])) (chosen woken (give Halting) s (b .afterPeek (b .afterIdle m)) p ∙ chosen awake (do wait; awake) (setHalt NotHalting s) (b .afterPeek (b .afterIdle m)) d)
@@ -120,14 +121,14 @@ module _ {W : Type 0} (b : Bus W) where
 
   pub passes : (t : Cpu) (w : W) {v : W} → Passed b t w v → runOn b (awake t ended) w ≡ runOn b (instruction t ended) v
   unfolding awake runOn
-  passes t w (ime-clear i) = chosen (do j ← asked; if isInterrupt j then dispatch else instruction) instruction t w i
+  passes t w (ime-clear i) = chosen (do j ← asked; if isPending j then dispatch else instruction) instruction t w i
   passes t w (none-pending i p) =
-      chosen (do j ← asked; if isInterrupt j then dispatch else instruction) instruction t w i ∙ chosen dispatch instruction t (b .afterPeek w) p
+      chosen (do j ← asked; if isPending j then dispatch else instruction) instruction t w i ∙ chosen dispatch instruction t (b .afterPeek w) p
 
-  pub dispatches : (t : Cpu) (w : W) → t .ime ≡ true → isInterrupt (b .peeks w) ≡ true → runOn b (awake t ended) w ≡ runOn b (dispatch t ended) (b .afterPeek w)
+  pub dispatches : (t : Cpu) (w : W) → t .ime ≡ true → isPending (b .peeks w) ≡ true → runOn b (awake t ended) w ≡ runOn b (dispatch t ended) (b .afterPeek w)
   unfolding awake runOn
   dispatches t w i p =
-      chosen (do j ← asked; if isInterrupt j then dispatch else instruction) instruction t w i ∙ chosen dispatch instruction t (b .afterPeek w) p
+      chosen (do j ← asked; if isPending j then dispatch else instruction) instruction t w i ∙ chosen dispatch instruction t (b .afterPeek w) p
 
   -- waking changes the halt mode alone
   pub woke-pc : {s t : Cpu} {m w : W} {l : List Access} → Woke b s m l t w → pc t ≡ pc s

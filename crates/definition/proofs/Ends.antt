@@ -5,6 +5,7 @@ use mathlib.Core.List.{List, [], _∷_}
 use Prim.Native.Nat.{ℕ, suc}
 use lib.ListN.{length}
 use Rattle.sm83.specs.declared.Cpu.{Cpu}
+use Rattle.outcome.specs.declared.interrupt.NextInterrupt.{NextInterrupt}
 use Rattle.outcome.specs.declared.Outcome.the-variants.{Normal}
 use Rattle.sm83.specs.Basics.{if_then_else_}
 use Rattle.definition.specs.Bus.{Operand, Stack, Ask, answer, read, write, idle, peek, writeAndTake, Access, Read, Write, Idle, WriteAndTake, Bus, runOn}
@@ -18,8 +19,8 @@ Ends P (answer e) = P [] e
 Ends P (read k a f) = (v : ℕ) → Ends (λ l e. P (Read k a ∷ l) e) (f v)
 Ends P (write k a v p) = Ends (λ l e. P (Write k a v ∷ l) e) p
 Ends P (idle p) = Ends (λ l e. P (Idle ∷ l) e) p
-Ends P (peek f) = (i : ℕ) → Ends P (f i)
-Ends P (writeAndTake a v f) = (i : ℕ) → Ends (λ l e. P (WriteAndTake a v ∷ l) e) (f i)
+Ends P (peek f) = (i : NextInterrupt) → Ends P (f i)
+Ends P (writeAndTake a v f) = (i : NextInterrupt) → Ends (λ l e. P (WriteAndTake a v ∷ l) e) (f i)
 
 pub ends-on : {W : Type 0} (b : Bus W) (P : List Access → Ended → Type 0) (p : Ask Ended) → Ends P p → (m : W) → P (runOn b p m .accesses) (runOn b p m .value)
 unfolding runOn

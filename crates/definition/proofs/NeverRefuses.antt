@@ -8,7 +8,9 @@ use Rattle.outcome.specs.declared.Outcome.{Outcome}
 use Rattle.outcome.specs.declared.Outcome.the-variants.{Normal, InfiniteLoop, Halting, RunningHDMA, Stopped, RunningInterrupt, Breakpoint, Refused}
 use Rattle.sm83.specs.declared.HaltMode.the-variants.{HaltRunInterrupt, HaltNoRunInterrupt, HaltBug}
 use Rattle.sm83.specs.Basics.{if_then_else_, word, next, offset}
-use Rattle.definition.specs.Bus.{Ask, answer, read, write, idle, peek, writeAndTake, Stack, Bus, runOn, isInterrupt}
+use Rattle.definition.specs.Bus.{Ask, answer, read, write, idle, peek, writeAndTake, Stack, Bus, runOn}
+use Rattle.outcome.specs.declared.interrupt.NextInterrupt.{NextInterrupt}
+use Rattle.outcome.specs.Numbers.{isPending}
 use Rattle.opcodes.specs.Arithmetic.{holds}
 use Rattle.sm83.specs.State.{pc, flags, pairHL, setHalt}
 use Rattle.opcodes.specs.Instruction.{Jump, JP-n16, JP-HL, JR-e8, CALL-n16, RET, RETI, JP-cc-n16, JR-cc-e8, CALL-cc-n16, RET-cc, RST-vec}
@@ -35,8 +37,8 @@ Never (answer e) = T (not (refuses (e .outcome)))
 Never (read k a f) = (v : ℕ) → Never (f v)
 Never (write k a v p) = Never p
 Never (idle p) = Never p
-Never (peek f) = (i : ℕ) → Never (f i)
-Never (writeAndTake a v f) = (i : ℕ) → Never (f i)
+Never (peek f) = (i : NextInterrupt) → Never (f i)
+Never (writeAndTake a v f) = (i : NextInterrupt) → Never (f i)
 
 pub never-run : {W : Type 0} (b : Bus W) (p : Ask Ended) (m : W) → Never p → T (not (refuses (runOn b p m .value .outcome)))
 unfolding runOn
@@ -80,7 +82,7 @@ jump-never at (CALL-cc-n16 c) s = λ x y. never-either (holds c (flags s)) _ _ _
 jump-never at (RET-cc c) s = never-either (holds c (flags s)) _ _ _ (λ x y. tt) tt
 jump-never at (RST-vec v) s = tt
 
-halt-never : (t : Bool) (s : Cpu) → Never ((if t then change (setHalt HaltRunInterrupt) else (do i ← asked; change (setHalt (if isInterrupt i then HaltBug else HaltNoRunInterrupt)))) s (λ u t'. ended Normal t'))
+halt-never : (t : Bool) (s : Cpu) → Never ((if t then change (setHalt HaltRunInterrupt) else (do i ← asked; change (setHalt (if isPending i then HaltBug else HaltNoRunInterrupt)))) s (λ u t'. ended Normal t'))
 halt-never true s = tt
 halt-never false s = λ i. tt
 

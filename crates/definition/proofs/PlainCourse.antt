@@ -7,7 +7,8 @@ use lib.Dec.{T}
 use Rattle.sm83.specs.declared.Cpu.{Cpu}
 use Rattle.sm83.specs.declared.HaltMode.the-variants.{NotHalting}
 use Rattle.sm83.specs.Basics.{if_then_else_}
-use Rattle.definition.specs.Bus.{Access, Idle, isInterrupt, pending, plain}
+use Rattle.definition.specs.Bus.{Access, Idle, pending, plain}
+use Rattle.outcome.specs.Numbers.{isPending}
 use Rattle.sm83.specs.State.{setHalt}
 use Rattle.definition.specs.Step.{isAsleep}
 use Rattle.definition.proofs.Course.{Woke, was-awake, woke-dmg, woke-cgb, Passed, ime-clear, none-pending}
@@ -29,15 +30,15 @@ pub same-ime : (s : Cpu) (a : Bool) → (if a then setHalt NotHalting s else s) 
 same-ime s true = refl
 same-ime s false = refl
 
-pub woke-plain : (s : Cpu) (m : List ℕ) → (T (isAsleep (s .halt)) → isInterrupt (pending m) ≡ true) → Woke plain s m (idles s) (rousedFrom s) m
+pub woke-plain : (s : Cpu) (m : List ℕ) → (T (isAsleep (s .halt)) → isPending (pending m) ≡ true) → Woke plain s m (idles s) (rousedFrom s) m
 woke-plain s m p = by-sleep (isAsleep (s .halt)) (s .dmg) refl refl p
   where
-    by-sleep : (a d : Bool) → isAsleep (s .halt) ≡ a → s .dmg ≡ d → (T a → isInterrupt (pending m) ≡ true) → Woke plain s m (idlesOf a d) (if a then setHalt NotHalting s else s) m
+    by-sleep : (a d : Bool) → isAsleep (s .halt) ≡ a → s .dmg ≡ d → (T a → isPending (pending m) ≡ true) → Woke plain s m (idlesOf a d) (if a then setHalt NotHalting s else s) m
     by-sleep true true a d p = woke-dmg a (p tt) d
     by-sleep true false a d p = woke-cgb a (p tt) d
     by-sleep false d a e p = was-awake a
 
-pub passed-plain : (m : List ℕ) (t : Cpu) (i : Bool) → t .ime ≡ i → (T i → isInterrupt (pending m) ≡ false) → Passed plain t m m
+pub passed-plain : (m : List ℕ) (t : Cpu) (i : Bool) → t .ime ≡ i → (T i → isPending (pending m) ≡ false) → Passed plain t m m
 passed-plain m t true i p = none-pending i (p tt)
 passed-plain m t false i p = ime-clear i
 

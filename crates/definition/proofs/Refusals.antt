@@ -15,7 +15,8 @@ use Rattle.outcome.specs.declared.Refusal.{Refusal}
 use Rattle.outcome.specs.declared.Refusal.the-variants.{MemoryLength, LowBitsOfF, IllegalOpcode}
 use Rattle.outcome.specs.declared.Outcome.the-variants.{Refused}
 use Rattle.sm83.specs.Basics.{if_then_else_}
-use Rattle.definition.specs.Bus.{Access, Read, Fetch, Bus, Ran, logged, runOn, isInterrupt, byteAt, pending, plain}
+use Rattle.definition.specs.Bus.{Access, Read, Fetch, Bus, Ran, logged, runOn, byteAt, pending, plain}
+use Rattle.outcome.specs.Numbers.{isPending}
 use Rattle.sm83.specs.State.{pc, flags, setPC, setIme, setLatch}
 use Rattle.opcodes.specs.Instruction.{Instruction, ILLEGAL, decode}
 use Rattle.definition.specs.Execution.{execute}
@@ -123,6 +124,6 @@ module _ {W : Type 0} (b : Bus W) where
 -- 3 on plain memory: "bytes unchanged", "the fetch and step 3's idle accesses counted".
 
 module _ (s : Cpu) (m : List ℕ) where
-  pub refusal-3-plain : length m ≡ 65536 → flags s % 16 ≡ 0 → s .stopped ≡ false → s .hdma ≡ false → (T (isAsleep (s .halt)) → isInterrupt (pending m) ≡ true) → (T (s .ime) → isInterrupt (pending m) ≡ false) → decode (byteAt m (pc s)) ≡ ILLEGAL → stepOn plain s m ≡ record { value = record { outcome = Refused IllegalOpcode; cpu = leftBy3 s }; memory = m; accesses = idles s ++ Read Fetch (pc s) ∷ [] }
+  pub refusal-3-plain : length m ≡ 65536 → flags s % 16 ≡ 0 → s .stopped ≡ false → s .hdma ≡ false → (T (isAsleep (s .halt)) → isPending (pending m) ≡ true) → (T (s .ime) → isPending (pending m) ≡ false) → decode (byteAt m (pc s)) ≡ ILLEGAL → stepOn plain s m ≡ record { value = record { outcome = Refused IllegalOpcode; cpu = leftBy3 s }; memory = m; accesses = idles s ++ Read Fetch (pc s) ∷ [] }
   refusal-3-plain z f r h wake calm e =
       refusal-3 plain s m z f r h (woke-plain s m wake) (passed-plain m (rousedFrom s) (s .ime) (same-ime s (isAsleep (s .halt))) calm) e

@@ -8,7 +8,8 @@ use Rattle.sm83.specs.declared.Cpu.{Cpu}
 use Rattle.sm83.specs.declared.HaltMode.the-variants.{NotHalting}
 use Rattle.outcome.specs.declared.Outcome.{Outcome}
 use Rattle.sm83.specs.Basics.{if_then_else_}
-use Rattle.definition.specs.Bus.{Idle, isInterrupt, Bus, Ran, runOn, logged, mcycles}
+use Rattle.definition.specs.Bus.{Idle, Bus, Ran, runOn, logged, mcycles}
+use Rattle.outcome.specs.Numbers.{isPending}
 use Rattle.sm83.specs.State.{flags, setHalt}
 use Rattle.opcodes.specs.Instruction.{Instruction, decode}
 use Rattle.definition.specs.Execution.{Does, _>>_, wait}
@@ -34,14 +35,14 @@ module _ {W : Type 0} (b : Bus W) where
   hdma-costs-1 s m e h = ap (λ (d : Does Ended Outcome). mcycles (runOn b (d s ended) m .accesses)) (if-not _ _ e ∙ if-so _ _ h)
 
   -- 3. "Halted .. one idle access. Nothing pending: outcome Halting"
-  pub halted-costs-1 : (s : Cpu) (m : W) → s .stopped ≡ false → s .hdma ≡ false → isAsleep (s .halt) ≡ true → isInterrupt (b .peeks (b .afterIdle m)) ≡ false → cost s m ≡ 1
+  pub halted-costs-1 : (s : Cpu) (m : W) → s .stopped ≡ false → s .hdma ≡ false → isAsleep (s .halt) ≡ true → isPending (b .peeks (b .afterIdle m)) ≡ false → cost s m ≡ 1
   unfolding step runOn
   halted-costs-1 s m e h a i =
       ap (λ (d : Does Ended Outcome). mcycles (runOn b (d s ended) m .accesses)) (if-not _ _ e ∙ if-not _ _ h ∙ if-so _ _ a)
       ∙ ap (λ (d : Does Ended Outcome). suc (mcycles (runOn b (d s ended) (b .afterPeek (b .afterIdle m)) .accesses))) (if-not _ _ i)
 
   -- 4. an interrupt is dispatched: two writes and "three idle accesses"
-  pub dispatch-costs-5 : (s : Cpu) (m : W) → s .stopped ≡ false → s .hdma ≡ false → isAsleep (s .halt) ≡ false → s .ime ≡ true → isInterrupt (b .peeks m) ≡ true → cost s m ≡ 5
+  pub dispatch-costs-5 : (s : Cpu) (m : W) → s .stopped ≡ false → s .hdma ≡ false → isAsleep (s .halt) ≡ false → s .ime ≡ true → isPending (b .peeks m) ≡ true → cost s m ≡ 5
   unfolding step awake runOn
   dispatch-costs-5 s m e h a t i =
       ap (λ (d : Does Ended Outcome). mcycles (runOn b (d s ended) m .accesses)) (if-not _ _ e ∙ if-not _ _ h ∙ if-not _ _ a)
@@ -63,7 +64,7 @@ module _ {W : Type 0} (b : Bus W) where
   woken-is false s n = refl
 
   -- 3. "Pending: the halt ends in this very step, one more idle access if not DMG, and the step goes on": as that of the state that halts no more
-  pub step-wakes : (s : Cpu) (m : W) → s .stopped ≡ false → s .hdma ≡ false → isAsleep (s .halt) ≡ true → isInterrupt (b .peeks (b .afterIdle m)) ≡ true → stepped b s m ≡ waking (s .dmg) (stepped b (setHalt NotHalting s) (wokenMemory s m))
+  pub step-wakes : (s : Cpu) (m : W) → s .stopped ≡ false → s .hdma ≡ false → isAsleep (s .halt) ≡ true → isPending (b .peeks (b .afterIdle m)) ≡ true → stepped b s m ≡ waking (s .dmg) (stepped b (setHalt NotHalting s) (wokenMemory s m))
   unfolding step runOn
   step-wakes s m e h a i =
       ap (λ (d : Does Ended Outcome). runOn b (d s ended) m) (if-not _ _ e ∙ if-not _ _ h ∙ if-so _ _ a)
@@ -75,7 +76,7 @@ module _ {W : Type 0} (b : Bus W) where
   waking-costs true r = omega arith
   waking-costs false r = omega arith
 
-  pub waking-adds : (s : Cpu) (m : W) → s .stopped ≡ false → s .hdma ≡ false → isAsleep (s .halt) ≡ true → isInterrupt (b .peeks (b .afterIdle m)) ≡ true → cost s m ≡ (if s .dmg then 1 else 2) + cost (setHalt NotHalting s) (wokenMemory s m)
+  pub waking-adds : (s : Cpu) (m : W) → s .stopped ≡ false → s .hdma ≡ false → isAsleep (s .halt) ≡ true → isPending (b .peeks (b .afterIdle m)) ≡ true → cost s m ≡ (if s .dmg then 1 else 2) + cost (setHalt NotHalting s) (wokenMemory s m)
   waking-adds s m e h a i = ap (λ (r : Ran W Ended). mcycles (r .accesses)) (step-wakes s m e h a i) ∙ waking-costs (s .dmg) _
 
   -- 5 to 7. the instruction's own
@@ -95,12 +96,12 @@ module _ {W : Type 0} (b : Bus W) where
 
   awake-within : (s : Cpu) (m : W) → s .stopped ≡ false → s .hdma ≡ false → isAsleep (s .halt) ≡ false → Within 1 6 (cost s m)
   awake-within s m e h a =
-      let instruct : (s .ime && isInterrupt (b .peeks m)) ≡ false → Within 1 6 (cost s m) = λ u. instruction-within s m (record { running = e; no-hdma = h; not-asleep = a; uninterrupted = u }) in
+      let instruct : (s .ime && isPending (b .peeks m)) ≡ false → Within 1 6 (cost s m) = λ u. instruction-within s m (record { running = e; no-hdma = h; not-asleep = a; uninterrupted = u }) in
       by-cases (s .ime)
-      (λ t. by-cases (isInterrupt (b .peeks m))
+      (λ t. by-cases (isPending (b .peeks m))
       (λ i. subst (Within 1 6) (sym (dispatch-costs-5 s m e h a t i)) (omega arith, omega arith))
-      (λ i. instruct (and-not (s .ime) (isInterrupt (b .peeks m)) i)))
-      (λ t. instruct (ap (λ (x : Bool). x && isInterrupt (b .peeks m)) t))
+      (λ i. instruct (and-not (s .ime) (isPending (b .peeks m)) i)))
+      (λ t. instruct (ap (λ (x : Bool). x && isPending (b .peeks m)) t))
 
   woken-within : (t : Bool) (n : ℕ) → Within 1 6 n → Within 1 8 ((if t then 1 else 2) + n)
   woken-within true n h = (omega (arith, h), omega (arith, h))
@@ -115,7 +116,7 @@ module _ {W : Type 0} (b : Bus W) where
       by-cases (s .stopped) (λ e. just-1 _ (stopped-costs-1 s m e))
       (λ e. by-cases (s .hdma) (λ h. just-1 _ (hdma-costs-1 s m e h))
       (λ h. by-cases (isAsleep (s .halt))
-      (λ a. by-cases (isInterrupt (b .peeks (b .afterIdle m)))
+      (λ a. by-cases (isPending (b .peeks (b .afterIdle m)))
       (λ i. subst (Within 1 8) (sym (waking-adds s m e h a i)) (woken-within (s .dmg) _ (awake-within (setHalt NotHalting s) (wokenMemory s m) e h refl)))
       (λ i. just-1 _ (halted-costs-1 s m e h a i)))
       (λ a. let k : Within 1 6 (cost s m) = awake-within s m e h a in (omega (arith, k), omega (arith, k)))))

@@ -7,7 +7,8 @@ use Rattle.sm83.specs.declared.Cpu.{Cpu}
 use Rattle.sm83.specs.declared.HaltMode.the-variants.{NotHalting}
 use Rattle.outcome.specs.declared.Outcome.{Outcome}
 use Rattle.sm83.specs.Basics.{if_then_else_, next}
-use Rattle.definition.specs.Bus.{Fetch, Read, byteAt, plain, Ask, isInterrupt, Bus, Ran, runOn, logged}
+use Rattle.definition.specs.Bus.{Fetch, Read, byteAt, plain, Ask, Bus, Ran, runOn, logged}
+use Rattle.outcome.specs.Numbers.{isPending}
 use Rattle.sm83.specs.State.{pc, sp, flags, setPC, setIme, setLatch, setHalt}
 use Rattle.opcodes.specs.Instruction.{Instruction, decode, operands}
 use Rattle.definition.specs.Execution.{Does, asked, _>>=_}
@@ -24,7 +25,7 @@ pub record Runs {W : Type 0} (b : Bus W) (s : Cpu) (m : W) : Type 0 where
   pub running : s .stopped ≡ false
   pub no-hdma : s .hdma ≡ false
   pub not-asleep : isAsleep (s .halt) ≡ false
-  pub uninterrupted : (s .ime && isInterrupt (b .peeks m)) ≡ false
+  pub uninterrupted : (s .ime && isPending (b .peeks m)) ≡ false
 
 -- PC after the fetch: "HaltBug ends here and PC goes back to its value before the fetch"
 abbrev pub afterFetch : Cpu → ℕ
@@ -72,7 +73,7 @@ module _ {W : Type 0} (b : Bus W) where
   abbrev pub rest : Cpu → W → Ran W Ended
   rest s m = executed b (pc s) (decode (opcode s m)) (fetched (enabled s)) (b .afterRead Fetch (atFetch s m) (pc s))
 
-  uninterrupted-step : (t : Bool) (s : Cpu) (m : W) → (t && isInterrupt (b .peeks m)) ≡ false → runOn b ((if t then (asked >>= (λ i. if isInterrupt i then dispatch else instruction)) else instruction) s ended) m ≡ runOn b (instruction s ended) (if t then b .afterPeek m else m)
+  uninterrupted-step : (t : Bool) (s : Cpu) (m : W) → (t && isPending (b .peeks m)) ≡ false → runOn b ((if t then (asked >>= (λ i. if isPending i then dispatch else instruction)) else instruction) s ended) m ≡ runOn b (instruction s ended) (if t then b .afterPeek m else m)
   unfolding runOn
   uninterrupted-step true s m e = ap (λ (d : Does Ended Outcome). runOn b (d s ended) (b .afterPeek m)) (if-not dispatch instruction e)
   uninterrupted-step false s m e = refl

@@ -2,10 +2,14 @@
 use mathlib.Core.Bool.{Bool, true, false}
 use mathlib.Core.List.{List, [], _∷_}
 use Prim.Native.Nat.{ℕ, _+_, _-_, _*_, _/_, _%_, _^_}
-use lib.Dec.{eqb, ltb}
+use lib.Dec.{eqb}
 use lib.ListN.{getD, set, length}
 use lib.Bits.{bitAnd}
 use Rattle.sm83.specs.Basics.{if_then_else_, bitAt, cleared}
+use Rattle.outcome.specs.declared.interrupt.InterruptType.the-variants.{Vblank, LcdStat, Timer, Serial, Joypad}
+use Rattle.outcome.specs.declared.interrupt.NextInterrupt.{NextInterrupt}
+use Rattle.outcome.specs.declared.interrupt.NextInterrupt.the-variants.{NonePending, Pending}
+use Rattle.outcome.specs.Numbers.{interruptNumber}
 
 -- What an access is for. No promise is made about it yet (02, request 9).
 pub data Kind : Type 0 where
@@ -18,8 +22,8 @@ pub data Ask (A : Type 0) : Type 0 where
   read : Kind → ℕ → (ℕ → Ask A) → Ask A
   write : Kind → ℕ → ℕ → Ask A → Ask A
   idle : Ask A → Ask A
-  peek : (ℕ → Ask A) → Ask A
-  writeAndTake : ℕ → ℕ → (ℕ → Ask A) → Ask A
+  peek : (NextInterrupt → Ask A) → Ask A
+  writeAndTake : ℕ → ℕ → (NextInterrupt → Ask A) → Ask A
 
 -- "A read, a write or an idle access costs one M-cycle": each entry of the list is one of them.
 pub data Access : Type 0 where
@@ -35,7 +39,7 @@ pub record Bus (W : Type 0) : Type 0 where
   pub afterRead : Kind → W → ℕ → W
   pub afterWrite : Kind → W → ℕ → ℕ → W
   pub afterIdle : W → W
-  pub peeks : W → ℕ
+  pub peeks : W → NextInterrupt
   pub afterPeek : W → W
   pub afterTake : W → W
 
@@ -61,22 +65,14 @@ runOn b (writeAndTake a v f) m = logged (WriteAndTake a v) (runOn b (f (b .peeks
 abbrev pub mcycles : List Access → ℕ
 mcycles l = length l
 
--- Interrupts: "0 to 4", and 5 for none.
-
-abbrev pub none : ℕ
-none = 5
-
-abbrev pub isInterrupt : ℕ → Bool
-isInterrupt i = ltb i none
-
 -- "the lowest set bit wins"
-abbrev pub lowest : ℕ → ℕ
+abbrev pub lowest : ℕ → NextInterrupt
 lowest x =
-    if eqb (bitAt 0 x) 1 then 0
-    else (if eqb (bitAt 1 x) 1 then 1
-    else (if eqb (bitAt 2 x) 1 then 2
-    else (if eqb (bitAt 3 x) 1 then 3
-    else (if eqb (bitAt 4 x) 1 then 4 else none))))
+    if eqb (bitAt 0 x) 1 then Pending Vblank
+    else (if eqb (bitAt 1 x) 1 then Pending LcdStat
+    else (if eqb (bitAt 2 x) 1 then Pending Timer
+    else (if eqb (bitAt 3 x) 1 then Pending Serial
+    else (if eqb (bitAt 4 x) 1 then Pending Joypad else NonePending))))
 
 -- Plain memory: a list of 65,536 bytes.
 
@@ -84,12 +80,16 @@ abbrev pub byteAt : List ℕ → ℕ → ℕ
 byteAt m a = getD m a 0
 
 -- "Peeking sees byte 0xFF0F AND byte 0xFFFF AND 0x1F"
-unfoldable pub pending : List ℕ → ℕ
+unfoldable pub pending : List ℕ → NextInterrupt
 pending m = lowest (bitAnd (bitAnd (byteAt m 0xff0f) (byteAt m 0xffff)) 0x1f)
 
 -- "Taking it clears that bit alone at 0xFF0F"
+abbrev pub without : NextInterrupt → List ℕ → List ℕ
+without NonePending m = m
+without (Pending i) m = set m 0xff0f (cleared (interruptNumber i) (byteAt m 0xff0f))
+
 unfoldable pub taken : List ℕ → List ℕ
-taken m = if isInterrupt (pending m) then set m 0xff0f (cleared (pending m) (byteAt m 0xff0f)) else m
+taken m = without (pending m) m
 
 abbrev pub plain : Bus (List ℕ)
 plain =

@@ -9,7 +9,9 @@ use Rattle.outcome.specs.declared.Refusal.the-variants.{IllegalOpcode}
 use Rattle.outcome.specs.declared.Outcome.{Outcome}
 use Rattle.outcome.specs.declared.Outcome.the-variants.{Normal, InfiniteLoop, Breakpoint, Refused}
 use Rattle.sm83.specs.Basics.{if_then_else_, cleared, raised, word, highByte, lowByte, next, back, offset}
-use Rattle.definition.specs.Bus.{Kind, Fetch, Operand, Stack, Ask, read, write, idle, peek, isInterrupt}
+use Rattle.definition.specs.Bus.{Kind, Fetch, Operand, Stack, Ask, read, write, idle, peek}
+use Rattle.outcome.specs.declared.interrupt.NextInterrupt.{NextInterrupt}
+use Rattle.outcome.specs.Numbers.{isPending}
 use Rattle.sm83.specs.State.{pairAF, pairBC, pairDE, pairHL, writeA, writeF, writeSP, writePC, putBC, putDE, putHL, writeBC, writeDE, writeHL, writeAF, onRegisters, setPC, setIme, setLatch, setHalt, setStopped}
 use Rattle.opcodes.specs.Arithmetic.{holds, Result, aluOp, accOp, shiftOp, increment, decrement, bitTest, wordSumFlags, offsetFlags}
 use Rattle.opcodes.specs.Instruction.{Reg8, rB, rC, rD, rE, rH, rL, [HL], rA, Reg16, rBC, rDE, rHL, rSP, Stacked, pBC, pDE, pHL, pAF, Pointer, [BC], [DE], [HL+], [HL-], Cond, Alu, Acc, Shift}
@@ -78,7 +80,7 @@ store c a v = λ s k. write c a v (k tt s)
 abbrev pub wait : {R : Type 0} → Does R (Unit {0})
 wait = λ s k. idle (k tt s)
 
-abbrev pub asked : {R : Type 0} → Does R ℕ
+abbrev pub asked : {R : Type 0} → Does R NextInterrupt
 asked = λ s k. peek (λ i. k i s)
 
 -- the byte at PC, and PC past it
@@ -255,7 +257,7 @@ jump at (RST-vec v) = do call v; normal
 abbrev pub halt : {R : Type 0} → Does R (Unit {0})
 halt = do
   s ← state
-  if s .ime then change (setHalt HaltRunInterrupt) else (do i ← asked; change (setHalt (if isInterrupt i then HaltBug else HaltNoRunInterrupt)))
+  if s .ime then change (setHalt HaltRunInterrupt) else (do i ← asked; change (setHalt (if isPending i then HaltBug else HaltNoRunInterrupt)))
 
 -- point 7, from the state after the fetch
 unfoldable pub execute : {R : Type 0} → ℕ → Instruction → Does R Outcome

@@ -7,12 +7,16 @@ use lib.ListN.{getD}
 use Rattle.sm83.specs.declared.Cpu.{Cpu}
 use Rattle.sm83.specs.declared.HaltMode.{HaltMode}
 use Rattle.sm83.specs.declared.HaltMode.the-variants.{NotHalting, HaltRunInterrupt, HaltNoRunInterrupt, HaltBug}
+use Rattle.outcome.specs.declared.interrupt.InterruptType.{InterruptType}
+use Rattle.outcome.specs.declared.interrupt.NextInterrupt.{NextInterrupt}
+use Rattle.outcome.specs.declared.interrupt.NextInterrupt.the-variants.{NonePending, Pending}
+use Rattle.outcome.specs.Numbers.{interruptNumber, isPending}
 use Rattle.outcome.specs.declared.Refusal.{Refusal}
 use Rattle.outcome.specs.declared.Refusal.the-variants.{MemoryLength, LowBitsOfF}
 use Rattle.outcome.specs.declared.Outcome.{Outcome}
 use Rattle.outcome.specs.declared.Outcome.the-variants.{Normal, Halting, RunningHDMA, Stopped, RunningInterrupt, Refused}
 use Rattle.sm83.specs.Basics.{if_then_else_, highByte, lowByte, next, back}
-use Rattle.definition.specs.Bus.{Fetch, Stack, Ask, answer, writeAndTake, isInterrupt, Bus, Ran, runOn}
+use Rattle.definition.specs.Bus.{Fetch, Stack, Ask, answer, writeAndTake, Bus, Ran, runOn}
 use Rattle.sm83.specs.State.{pc, sp, flags, setPC, setSP, setIme, setLatch, setHalt}
 use Rattle.opcodes.specs.Instruction.{decode}
 use Rattle.definition.specs.Execution.{Does, _>>=_, _>>_, give, state, change, load, store, wait, asked, execute, executing}
@@ -30,12 +34,22 @@ isBug HaltRunInterrupt = false
 isBug HaltNoRunInterrupt = false
 isBug HaltBug = true
 
--- "the five vectors 0x40, 0x48, 0x50, 0x58, 0x60"; "If none is left, PC is 0"
-abbrev pub vector : ℕ → ℕ
-vector i = getD (0x40 ∷ 0x48 ∷ 0x50 ∷ 0x58 ∷ 0x60 ∷ []) i 0
+-- "the five vectors 0x40, 0x48, 0x50, 0x58, 0x60"
+abbrev pub vector : InterruptType → ℕ
+vector i = getD (0x40 ∷ 0x48 ∷ 0x50 ∷ 0x58 ∷ 0x60 ∷ []) (interruptNumber i) 0
+
+-- "PC is its vector .. If none is left, PC is 0"
+abbrev pub entryOf : NextInterrupt → ℕ
+entryOf NonePending = 0
+entryOf (Pending i) = vector i
+
+-- "the outcome RunningInterrupt with its number. If none is left .. the outcome is Normal."
+abbrev pub dispatchedAs : NextInterrupt → Outcome
+dispatchedAs NonePending = Normal
+dispatchedAs (Pending i) = RunningInterrupt i
 
 -- "write PC's high byte, peek again and take"
-abbrev pub storeAndTake : {R : Type 0} → ℕ → ℕ → Does R ℕ
+abbrev pub storeAndTake : {R : Type 0} → ℕ → ℕ → Does R NextInterrupt
 storeAndTake a v = λ s k. writeAndTake a v (λ i. k i s)
 
 -- 4. "SP less 1, write PC's high byte, peek again and take; PC is its vector .. IME is cleared. SP less 1, write the old PC's low byte, three idle accesses."
@@ -48,9 +62,9 @@ dispatch = do
   wait
   wait
   change (setSP (back (back (sp s))))
-  change (setPC (vector i))
+  change (setPC (entryOf i))
   change (setIme false)
-  give (if isInterrupt i then RunningInterrupt i else Normal)
+  give (dispatchedAs i)
 
 -- 5. "If the EI latch is set: IME set, latch cleared."
 abbrev pub enabled : Cpu → Cpu
@@ -73,7 +87,7 @@ instruction = do
 unfoldable pub awake : {R : Type 0} → Does R Outcome
 awake = do
   s ← state
-  if s .ime then (do i ← asked; if isInterrupt i then dispatch else instruction) else instruction
+  if s .ime then (do i ← asked; if isPending i then dispatch else instruction) else instruction
 
 -- 3. "Pending: the halt ends in this very step, one more idle access if not DMG, and the step goes on."
 abbrev pub woken : {R : Type 0} → Does R Outcome
@@ -84,7 +98,7 @@ woken = do
 
 -- 3, or 4 to 7, from this state. "Halted (HaltRunInterrupt or HaltNoRunInterrupt): one idle access."
 abbrev pub rested : {R : Type 0} → Cpu → Does R Outcome
-rested s = if isAsleep (s .halt) then (do wait; i ← asked; if isInterrupt i then woken else give Halting) else awake
+rested s = if isAsleep (s .halt) then (do wait; i ← asked; if isPending i then woken else give Halting) else awake
 
 -- 1, 2, or 3 to 7
 unfoldable pub step : {R : Type 0} → Does R Outcome

@@ -1,2 +1,3 @@
--- That the contracts leave one answer.
+-- That the contracts leave one answer, and that number and values tell which it is.
 pub mod Determined
+pub mod Told

@@ -1,2 +1,2 @@
--- The document's numbers.
+-- The document's numbers, and the values that come with them.
 pub mod Numbers

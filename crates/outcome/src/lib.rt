@@ -1,7 +1,10 @@
 // What a step and a run answer: how it ended, or why it was refused. The numbers are the document's; what the screen answers stands in `verdict`.
 ghost use mathlib.Core.Path.{_≡_};
 ghost use Rattle.outcome.specs.Numbers.{numberOf, outcomeNumber, lastNumber};
+use crate::interrupt::InterruptType;
 use sm83::CpuRegisters;
+
+pub mod interrupt;
 
 // Why a step or a run says no, in the order of the document's table. The screen's refusals are a kind of their own.
 pub enum Refusal {
@@ -30,7 +33,7 @@ pub enum Outcome {
     Halting,
     RunningHDMA,
     Stopped,
-    RunningInterrupt(u8),
+    RunningInterrupt(InterruptType),
     Breakpoint(CpuRegisters),
     Refused(Refusal),
 }
@@ -48,7 +51,7 @@ impl Outcome {
             Outcome::RunningHDMA => 3,
             Outcome::Stopped => 4,
             Outcome::Breakpoint(_) => 5,
-            Outcome::RunningInterrupt(interrupt) => 8 + (interrupt as u16),
+            Outcome::RunningInterrupt(interrupt) => 8 + (interrupt.number() as u16),
             Outcome::Refused(refusal) => 16 + (refusal.number() as u16),
         }
     }

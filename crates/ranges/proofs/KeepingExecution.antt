@@ -8,7 +8,8 @@ use Rattle.outcome.specs.declared.Outcome.{Outcome}
 use Rattle.outcome.specs.declared.Refusal.the-variants.{IllegalOpcode}
 use Rattle.outcome.specs.declared.Outcome.the-variants.{Normal, InfiniteLoop, Halting, RunningHDMA, Stopped, RunningInterrupt, Breakpoint, Refused}
 use Rattle.sm83.specs.Basics.{if_then_else_, bitAt, highByte, lowByte, next, back, offset, cleared, raised}
-use Rattle.definition.specs.Bus.{Fetch, Operand, isInterrupt}
+use Rattle.definition.specs.Bus.{Fetch, Operand}
+use Rattle.outcome.specs.Numbers.{isPending}
 use Rattle.sm83.specs.State.{setIme, setLatch, setHalt, setStopped}
 use Rattle.sm83.specs.Flags.{flagZ, flagC}
 use Rattle.opcodes.specs.Arithmetic.{isZero, holds, aluOp, accOp, shiftOp, increment, decrement, bitTest, wordSumFlags, offsetFlags}
@@ -153,7 +154,7 @@ module _ {R : Type 0} {Q : R → Type 0} where
 
   halt-keeps : Keeps Q Any halt
   halt-keeps =
-      said ⟫= λ s hs. either-keeps (s .ime) (changed (setHalt HaltRunInterrupt) (λ t r. r)) (peeked ⟫= λ i hi. changed (setHalt (if isInterrupt i then HaltBug else HaltNoRunInterrupt)) (λ t r. r))
+      said ⟫= λ s hs. either-keeps (s .ime) (changed (setHalt HaltRunInterrupt) (λ t r. r)) (peeked ⟫= λ i hi. changed (setHalt (if isPending i then HaltBug else HaltNoRunInterrupt)) (λ t r. r))
 
   pub execute-keeps : (at : ℕ) (i : Instruction) → Place at → T (vectorInRange i) → Keeps Q OutcomeRanged (execute at i)
   unfolding execute

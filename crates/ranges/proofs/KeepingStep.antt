@@ -9,7 +9,8 @@ use Rattle.sm83.specs.declared.Cpu.{Cpu}
 use Rattle.sm83.specs.declared.HaltMode.the-variants.{NotHalting}
 use Rattle.outcome.specs.declared.Outcome.the-variants.{Normal, Halting, RunningHDMA, Stopped, RunningInterrupt}
 use Rattle.sm83.specs.Basics.{if_then_else_, highByte, lowByte, next, back}
-use Rattle.definition.specs.Bus.{Fetch, Stack, isInterrupt}
+use Rattle.definition.specs.Bus.{Fetch, Stack}
+use Rattle.outcome.specs.Numbers.{isPending}
 use Rattle.sm83.specs.State.{pc, sp, setPC, setSP, setIme, setLatch, setHalt}
 use Rattle.opcodes.specs.Instruction.{decode}
 use Rattle.definition.specs.Step.{isAsleep, isBug, vector, storeAndTake, dispatch, enabled, fetched, instruction, awake, woken, step}
@@ -26,7 +27,7 @@ vector-place (suc (suc (suc zero))) = omega arith
 vector-place (suc (suc (suc (suc zero)))) = omega arith
 vector-place (suc (suc (suc (suc (suc i))))) = omega arith
 
-interrupt-or-not : (i : ℕ) (t : Bool) → isInterrupt i ≡ t → OutcomeRanged (if t then RunningInterrupt i else Normal)
+interrupt-or-not : (i : ℕ) (t : Bool) → isPending i ≡ t → OutcomeRanged (if t then RunningInterrupt i else Normal)
 interrupt-or-not i true e = ltb-true i 5 e
 interrupt-or-not i false e = tt
 
@@ -54,7 +55,7 @@ module _ {R : Type 0} {Q : R → Type 0} where
       changed (setSP (back (back (sp s)))) (λ t r. ranged-sp (t .registers) r (back (back (sp s))) (omega arith)) ⟫
       changed (setPC (vector i)) (λ t r. ranged-pc (t .registers) r (vector i) (vector-place i)) ⟫
       changed (setIme false) (λ t r. r) ⟫
-      given (if isInterrupt i then RunningInterrupt i else Normal) (interrupt-or-not i (isInterrupt i) refl)
+      given (if isPending i then RunningInterrupt i else Normal) (interrupt-or-not i (isPending i) refl)
 
   instruction-keeps : Keeps Q OutcomeRanged instruction
   unfolding instruction fetched
@@ -64,7 +65,7 @@ module _ {R : Type 0} {Q : R → Type 0} where
 
   awake-keeps : Keeps Q OutcomeRanged awake
   unfolding awake
-  awake-keeps = said ⟫= λ s hs. either-keeps (s .ime) (peeked ⟫= λ i hi. either-keeps (isInterrupt i) dispatch-keeps instruction-keeps) instruction-keeps
+  awake-keeps = said ⟫= λ s hs. either-keeps (s .ime) (peeked ⟫= λ i hi. either-keeps (isPending i) dispatch-keeps instruction-keeps) instruction-keeps
 
   woken-keeps : Keeps Q OutcomeRanged woken
   woken-keeps = changed (setHalt NotHalting) (λ s r. r) ⟫ said ⟫= λ s hs. either-keeps (s .dmg) awake-keeps (waited ⟫ awake-keeps)
@@ -74,4 +75,4 @@ module _ {R : Type 0} {Q : R → Type 0} where
   step-keeps =
       said ⟫= λ s hs. either-keeps (s .stopped) (waited ⟫ given Stopped tt)
       (either-keeps (s .hdma) (waited ⟫ given RunningHDMA tt)
-      (either-keeps (isAsleep (s .halt)) (waited ⟫ peeked ⟫= λ i hi. either-keeps (isInterrupt i) woken-keeps (given Halting tt)) awake-keeps))
+      (either-keeps (isAsleep (s .halt)) (waited ⟫ peeked ⟫= λ i hi. either-keeps (isPending i) woken-keeps (given Halting tt)) awake-keeps))

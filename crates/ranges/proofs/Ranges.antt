@@ -10,7 +10,8 @@ use lib.Seq.{getD-set-same, getD-set-other, set-out}
 use borrow.Author.Tests.{ltb-true, ltb-false, eqb-true, eqb-false}
 use Rattle.sm83.specs.declared.Cpu.{Cpu}
 use Rattle.sm83.specs.Basics.{if_then_else_, cleared}
-use Rattle.definition.specs.Bus.{Kind, Stack, Ask, answer, read, write, idle, peek, writeAndTake, Bus, runOn, byteAt, isInterrupt, pending, taken, plain}
+use Rattle.definition.specs.Bus.{Kind, Stack, Ask, answer, read, write, idle, peek, writeAndTake, Bus, runOn, byteAt, pending, taken, plain}
+use Rattle.outcome.specs.Numbers.{isPending}
 use Rattle.definition.specs.Step.{Ended, ended, stepTree, Admission, accepted, refusedAs, admission, admitted, stepOn}
 use Rattle.definition.specs.Run.{runFor}
 use Rattle.ranges.proofs.Ranged.{Ranged, cleared-byte}
@@ -119,7 +120,7 @@ plain-sized =
       by-write = λ k m a v. length-set m a v;
       by-idle = λ m. refl;
       by-peek = λ m. refl;
-      by-take = λ m. taken-length m (isInterrupt (pending m)) 0xff0f (cleared (pending m) (byteAt m 0xff0f));
+      by-take = λ m. taken-length m (isPending (pending m)) 0xff0f (cleared (pending m) (byteAt m 0xff0f));
     }
 
 pub step-length : (s : Cpu) (m : List ℕ) → length (stepOn plain s m .memory) ≡ length m
@@ -151,5 +152,5 @@ plain-lawful =
       write-good = λ k m a v g p q x. set-bytes m a v x (eqb x a) refl g q;
       idle-good = λ m g. g;
       peek-good = λ m g. g;
-      take-good = λ m g. taken-bytes m (isInterrupt (pending m)) (cleared (pending m) (byteAt m 0xff0f)) (cleared-byte (pending m) (byteAt m 0xff0f) (g 0xff0f)) g;
+      take-good = λ m g. taken-bytes m (isPending (pending m)) (cleared (pending m) (byteAt m 0xff0f)) (cleared-byte (pending m) (byteAt m 0xff0f) (g 0xff0f)) g;
     }

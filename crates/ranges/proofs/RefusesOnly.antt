@@ -14,7 +14,8 @@ use Rattle.outcome.specs.declared.Refusal.the-variants.{MemoryLength, LowBitsOf
 use Rattle.outcome.specs.declared.Outcome.{Outcome}
 use Rattle.outcome.specs.declared.Outcome.the-variants.{Normal, InfiniteLoop, Halting, RunningHDMA, Stopped, RunningInterrupt, Breakpoint, Refused}
 use Rattle.sm83.specs.Basics.{if_then_else_, highByte, back}
-use Rattle.definition.specs.Bus.{Access, Fetch, Stack, Bus, Ran, runOn, isInterrupt, byteAt, plain}
+use Rattle.definition.specs.Bus.{Access, Fetch, Stack, Bus, Ran, runOn, byteAt, plain}
+use Rattle.outcome.specs.Numbers.{isPending}
 use Rattle.sm83.specs.State.{pc, sp, flags}
 use Rattle.opcodes.specs.Instruction.{Instruction, does, goes, CB-prefix, HALT, STOP, EI, LD-B-B, ILLEGAL, decode}
 use Rattle.definition.specs.Execution.{execute}
@@ -74,7 +75,7 @@ module _ {W : Type 0} (b : Bus W) where
   by-course s m x r z f (point2 p q) e = absurd (not-refused tt e)
   by-course s m x r z f (point3 p q a i) e = absurd (not-refused tt e)
   by-course s m x r z f (point4 p q l t w woke i j) e =
-      absurd (not-refused (interrupt-not-refused (isInterrupt (b .peeks (b .afterWrite Stack (b .afterPeek w) (back (sp t)) (highByte (pc t))))) _) e)
+      absurd (not-refused (interrupt-not-refused (isPending (b .peeks (b .afterWrite Stack (b .afterPeek w) (back (sp t)) (highByte (pc t))))) _) e)
   by-course s m x r z f (points5to7 p q l t w v woke passed) e =
       let h : (decode (b .sees v (pc t)) ≡ ILLEGAL) × (3 ≡ numberOf r) = instruction-refused t v r e in
       subst (Why b s m) (h .1) (illegal-opcode z f p q woke passed (subst (λ (a : ℕ). decode (b .sees v a) ≡ ILLEGAL) (woke-pc b woke) (h .0)))

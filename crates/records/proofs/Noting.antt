@@ -7,7 +7,8 @@ use native.Mathlib.Omega.{arith}
 use lib.Dec.{eqb, ltb}
 use lib.ListN.{length}
 use borrow.Author.Tests.{eq-eqb, ne-eqb, lt-ltb, le-ltb}
-use Rattle.definition.specs.Bus.{byteAt, pending, isInterrupt}
+use Rattle.definition.specs.Bus.{byteAt, pending}
+use Rattle.outcome.specs.Numbers.{isPending}
 use Rattle.fields.specs.Bytes.{wordAt}
 use Rattle.records.specs.Bytes.{part}
 use Rattle.records.specs.Record.{kindOf, memoryLength, listed, memoryFrom}
@@ -15,7 +16,7 @@ use Rattle.records.specs.Notes.{counted, fetches, opcodeOf, prefixNoted,
 
 -- the opcode that is fetched
 module _ (s m m' : List ℕ) {peek : ℕ} {f : Bool} (peeked : peek ≡ pending m) (kept : m' ≡ m) (told : f ≡ fetches s (ltb peek 5)) where
-  decided : {t : Bool} → f ≡ t → fetches s (isInterrupt (pending m)) ≡ t
+  decided : {t : Bool} → f ≡ t → fetches s (isPending (pending m)) ≡ t
   decided h = sym (told ∙ ap (λ (k : ℕ). fetches s (ltb k 5)) peeked) ∙ h
 
   pub not-fetched : f ≡ false → 1536 ≡ opcodeOf s m

@@ -6,7 +6,8 @@ use Prim.Native.Nat.{ℕ, _+_, _*_, _%_, _^_}
 use lib.Dec.{eqb, leb, ltb}
 use lib.ListN.{length, getD, set}
 use Rattle.sm83.specs.Basics.{if_then_else_, next}
-use Rattle.definition.specs.Bus.{byteAt, pending, isInterrupt}
+use Rattle.definition.specs.Bus.{byteAt, pending}
+use Rattle.outcome.specs.Numbers.{isPending}
 use Rattle.fields.specs.Bytes.{wordAt}
 use Rattle.records.specs.Bytes.{part}
 use Rattle.records.specs.Record.{kindOf, memoryLength, listed, memoryFrom}
@@ -29,7 +30,7 @@ secondAt state = if eqb (byteAt state 14) 3 then wordAt state 10 else next (word
 -- the place of the opcode that a step fetches; past the end if it fetches none
 unfoldable pub opcodeOf : List ℕ → List ℕ → ℕ
 opcodeOf state m =
-    if fetches state (isInterrupt (pending m)) then
+    if fetches state (isPending (pending m)) then
     (if eqb (byteAt m (wordAt state 10)) 0xcb then 256 + byteAt m (secondAt state) else byteAt m (wordAt state 10)) else 1536
 
 -- CB is an opcode of the first table, too

@@ -9,7 +9,8 @@ use Rattle.sm83.specs.declared.HaltMode.the-variants.{NotHalting}
 use Rattle.outcome.specs.declared.Outcome.{Outcome}
 use Rattle.outcome.specs.declared.Outcome.the-variants.{Halting, Stopped, RunningHDMA}
 use Rattle.sm83.specs.Basics.{if_then_else_, back, highByte, lowByte}
-use Rattle.definition.specs.Bus.{Stack, Ask, write, idle, isInterrupt}
+use Rattle.definition.specs.Bus.{Stack, Ask, write, idle}
+use Rattle.outcome.specs.Numbers.{isPending}
 use Rattle.sm83.specs.State.{pc, sp, setPC, setSP, setIme, setHalt}
 use Rattle.definition.specs.Execution.{Does, _>>=_, _>>_, give, wait, asked}
 use Rattle.definition.specs.Step.{Ended, isAsleep, vector, dispatch, instruction, awake, woken, rested, step}
@@ -47,7 +48,7 @@ awakes : (s : Cpu) (k : Outcome → Cpu → Ask Ended) → awake s k ≡ called 
 unfolding awake
 awakes s k = by-ime (s .ime)
   where
-    by-ime : (b : Bool) → (if b then (asked >>= (λ i. if isInterrupt i then dispatch else instruction)) else instruction) s k ≡ called b (λ c. (if c then dispatch else instruction) s k)
+    by-ime : (b : Bool) → (if b then (asked >>= (λ i. if isPending i then dispatch else instruction)) else instruction) s k ≡ called b (λ c. (if c then dispatch else instruction) s k)
     by-ime true = refl
     by-ime false = refl
 
@@ -67,13 +68,13 @@ module _ (s : Cpu) (port : Port) (m : List ℕ) (asleep : Bool) (e : asleep ≡ 
   not-asleep a k = not-so _ _ awake s k (world port m) (sym e ∙ a)
 
   module _ (p : Port) (m1 m2 : List ℕ) (i : ℕ) (a : asleep ≡ true) (h1 : Idles port m p m1) (h2 : Peeks m1 i m2) where
-    peeked : LeadsTo (rested s) s port m (if isInterrupt i then woken else give Halting) s p m2
-    peeked k = so _ _ awake s k (world port m) (sym e ∙ a) ∙ h1 .there _ ∙ h2 .there p (λ x. (if isInterrupt x then woken else give Halting) s k)
+    peeked : LeadsTo (rested s) s port m (if isPending i then woken else give Halting) s p m2
+    peeked k = so _ _ awake s k (world port m) (sym e ∙ a) ∙ h1 .there _ ∙ h2 .there p (λ x. (if isPending x then woken else give Halting) s k)
 
-    pub still-asleep : isInterrupt i ≡ false → LeadsTo (rested s) s port m (afterHalt true) s p m2
+    pub still-asleep : isPending i ≡ false → LeadsTo (rested s) s port m (afterHalt true) s p m2
     still-asleep none k = peeked k ∙ not-so _ woken (give Halting) s k (world p m2) none
 
-    module _ (t : Cpu) (some : isInterrupt i ≡ true) (e5 : t ≡ setHalt NotHalting s) where
+    module _ (t : Cpu) (some : isPending i ≡ true) (e5 : t ≡ setHalt NotHalting s) where
       wakes : LeadsTo (rested s) s port m (if s .dmg then awake else (do wait; awake)) t p m2
       wakes k = peeked k ∙ so _ woken (give Halting) s k (world p m2) some ∙ ap (λ (u : Cpu). leads ((if s .dmg then awake else (do wait; awake)) u k) (world p m2)) (sym e5)
 

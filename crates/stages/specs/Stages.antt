@@ -9,7 +9,8 @@ use Rattle.sm83.specs.declared.HaltMode.the-variants.{NotHalting}
 use Rattle.outcome.specs.declared.Outcome.{Outcome}
 use Rattle.outcome.specs.declared.Outcome.the-variants.{Normal, Halting, RunningInterrupt}
 use Rattle.sm83.specs.Basics.{if_then_else_}
-use Rattle.definition.specs.Bus.{Ask, peek, isInterrupt}
+use Rattle.definition.specs.Bus.{Ask, peek}
+use Rattle.outcome.specs.Numbers.{isPending}
 use Rattle.sm83.specs.State.{setPC, setHalt}
 use Rattle.definition.specs.Execution.{Does, give}
 use Rattle.definition.specs.Step.{Ended, isBug, instruction, awake, rested}
@@ -35,11 +36,11 @@ pub record Going (s : Cpu) (t u : List ℕ) : Type 0 where
 
 -- point 4: whether an interrupt is taken is asked only where IME is set
 abbrev pub called : Bool → (Bool → Ask Ended) → Ask Ended
-called ime rest = if ime then peek (λ i. rest (isInterrupt i)) else rest false
+called ime rest = if ime then peek (λ i. rest (isPending i)) else rest false
 
 -- how a dispatch ends
 abbrev pub dispatched : ℕ → Outcome
-dispatched i = if isInterrupt i then RunningInterrupt i else Normal
+dispatched i = if isPending i then RunningInterrupt i else Normal
 
 -- point 6, after the fetch, if HaltBug ends there: PC goes back to `at`
 abbrev pub unbugged : Cpu → ℕ → Cpu

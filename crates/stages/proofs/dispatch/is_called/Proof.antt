@@ -1,13 +1,13 @@
 -- Shows whether point 4 applies.
 use borrow.Author.Needs.{needs}
-use Rattle.definition.specs.Bus.{isInterrupt}
+use Rattle.outcome.specs.Numbers.{isPending}
 use Rattle.stages.proofs.dispatch.is_called.Statement.{statement}
 use Rattle.stages.proofs.dispatch.is_called.Tie as tie
 
 returns : tie.Need-returns
 returns c =
     let peek = c .before .before .peek-next-interrupt in
-    record { there = λ port rest. simp (c .before .before .before .before .if1 .taken) (peek .ensures .there port (λ i. rest (isInterrupt i))); whole = peek .ensures .whole }
+    record { there = λ port rest. simp (c .before .before .before .before .if1 .taken) (peek .ensures .there port (λ i. rest (isPending i))); whole = peek .ensures .whole }
 
 returns-2 : tie.Need-returns-2
 returns-2 c = record { there = λ port rest. simp (c .if1 .left); whole = c .before .before .pre }
