@@ -1,9 +1,10 @@
 -- The parts of an instruction, from registers in range: they ask only for addresses below 65,536, write only bytes, and leave registers in range, whatever bytes memory answers.
 use mathlib.Core.Bool.{Bool, true, false}
-use Prim.Native.Nat.{ℕ, _*_, _/_, _%_, _≤_, _<_}
+use Prim.Native.Nat.{ℕ, _*_, _/_, _%_, _<_}
 use native.Mathlib.Omega.{arith}
 use Rattle.sm83.specs.declared.CpuRegisters.{CpuRegisters}
 use Rattle.sm83.specs.declared.Cpu.{Cpu}
+use Rattle.outcome.specs.declared.interrupt.NextInterrupt.{NextInterrupt}
 use Rattle.sm83.specs.Basics.{if_then_else_, word, highByte, lowByte, next, back}
 use Rattle.definition.specs.Bus.{Kind, Operand, Stack, Ask, answer, read, write, idle, peek, writeAndTake}
 use Rattle.sm83.specs.State.{pairAF, pairBC, pairDE, pairHL, writeA, writeF, writeSP, writePC, putBC, putDE, putHL, writeBC, writeDE, writeHL, writeAF, onRegisters}
@@ -21,14 +22,14 @@ Place a = a < 65536
 abbrev pub Any : {A : Type 0} → A → Type 0
 Any a = Unit {0}
 
--- where memory answers bytes, and interrupts 0 to 4 or none: places are asked, bytes are written, and the end is as Q says
+-- where memory answers bytes: places are asked, bytes are written, and the end is as Q says
 abbrev pub Safe : {R : Type 0} → (R → Type 0) → Ask R → Type 0
 Safe Q (answer e) = Q e
 Safe Q (read k a f) = Place a × ((v : ℕ) → Byte v → Safe Q (f v))
 Safe Q (write k a v p) = Place a × Byte v × Safe Q p
 Safe Q (idle p) = Safe Q p
-Safe Q (peek f) = (i : ℕ) → i ≤ 5 → Safe Q (f i)
-Safe Q (writeAndTake a v f) = Place a × Byte v × ((i : ℕ) → i ≤ 5 → Safe Q (f i))
+Safe Q (peek f) = (i : NextInterrupt) → Safe Q (f i)
+Safe Q (writeAndTake a v f) = Place a × Byte v × ((i : NextInterrupt) → Safe Q (f i))
 
 -- from registers in range, a value as P says and registers in range go on
 pub record Keeps {R A : Type 0} (Q : R → Type 0) (P : A → Type 0) (p : Does R A) : Type 0 where
@@ -66,8 +67,8 @@ module _ {R : Type 0} {Q : R → Type 0} where
   pub waited : Keeps Q Any wait
   waited = record { from = λ s k r h. h tt s tt r }
 
-  pub peeked : Keeps Q (λ (i : ℕ). i ≤ 5) asked
-  peeked = record { from = λ s k r h i p. h i s p r }
+  pub peeked : Keeps Q Any asked
+  peeked = record { from = λ s k r h i. h i s tt r }
 
   pub either-keeps : {A : Type 0} {P : A → Type 0} {p q : Does R A} (t : Bool) → Keeps Q P p → Keeps Q P q → Keeps Q P (if t then p else q)
   either-keeps true hp hq = hp

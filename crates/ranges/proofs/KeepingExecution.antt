@@ -73,7 +73,7 @@ OutcomeRanged InfiniteLoop = Unit {0}
 OutcomeRanged Halting = Unit {0}
 OutcomeRanged RunningHDMA = Unit {0}
 OutcomeRanged Stopped = Unit {0}
-OutcomeRanged (RunningInterrupt i) = i < 5
+OutcomeRanged (RunningInterrupt i) = Unit {0}
 OutcomeRanged (Breakpoint r) = Ranged r
 OutcomeRanged (Refused r) = Unit {0}
 

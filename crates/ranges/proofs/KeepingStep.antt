@@ -1,35 +1,36 @@
 -- The step keeps the registers in range and asks and writes as it may. Each line follows a point of the step in the definition.
-use mathlib.Core.Path.{_≡_, refl}
 use mathlib.Core.Bool.{Bool, true, false}
-use Prim.Native.Nat.{ℕ, zero, suc, _≤_}
+use Prim.Native.Nat.{ℕ}
 use native.Mathlib.Omega.{arith}
 use lib.Dec.{T}
-use borrow.Author.Tests.{ltb-true}
 use Rattle.sm83.specs.declared.Cpu.{Cpu}
 use Rattle.sm83.specs.declared.HaltMode.the-variants.{NotHalting}
-use Rattle.outcome.specs.declared.Outcome.the-variants.{Normal, Halting, RunningHDMA, Stopped, RunningInterrupt}
+use Rattle.outcome.specs.declared.Outcome.the-variants.{Halting, RunningHDMA, Stopped}
 use Rattle.sm83.specs.Basics.{if_then_else_, highByte, lowByte, next, back}
 use Rattle.definition.specs.Bus.{Fetch, Stack}
+use Rattle.outcome.specs.declared.interrupt.InterruptType.the-variants.{Vblank, LcdStat, Timer, Serial, Joypad}
+use Rattle.outcome.specs.declared.interrupt.NextInterrupt.{NextInterrupt}
+use Rattle.outcome.specs.declared.interrupt.NextInterrupt.the-variants.{NonePending, Pending}
 use Rattle.outcome.specs.Numbers.{isPending}
 use Rattle.sm83.specs.State.{pc, sp, setPC, setSP, setIme, setLatch, setHalt}
 use Rattle.opcodes.specs.Instruction.{decode}
-use Rattle.definition.specs.Step.{isAsleep, isBug, vector, storeAndTake, dispatch, enabled, fetched, instruction, awake, woken, step}
+use Rattle.definition.specs.Step.{isAsleep, isBug, entryOf, dispatchedAs, storeAndTake, dispatch, enabled, fetched, instruction, awake, woken, step}
 use Rattle.opcodes.proofs.Tested.{at}
 use Rattle.ranges.proofs.Ranged.{Ranged, ranged-pc, ranged-sp}
-use Rattle.ranges.proofs.Keeping.{Byte, Place, Keeps, _⟫=_, _⟫_, given, said, changed, loaded, stored, waited, peeked, either-keeps}
+use Rattle.ranges.proofs.Keeping.{Byte, Place, Any, Keeps, _⟫=_, _⟫_, given, said, changed, loaded, stored, waited, peeked, either-keeps}
 use Rattle.ranges.proofs.KeepingExecution.{vectorInRange, OutcomeRanged, execute-keeps}
 
-vector-place : (i : ℕ) → Place (vector i)
-vector-place zero = omega arith
-vector-place (suc zero) = omega arith
-vector-place (suc (suc zero)) = omega arith
-vector-place (suc (suc (suc zero))) = omega arith
-vector-place (suc (suc (suc (suc zero)))) = omega arith
-vector-place (suc (suc (suc (suc (suc i))))) = omega arith
+entry-place : (i : NextInterrupt) → Place (entryOf i)
+entry-place NonePending = omega arith
+entry-place (Pending Vblank) = omega arith
+entry-place (Pending LcdStat) = omega arith
+entry-place (Pending Timer) = omega arith
+entry-place (Pending Serial) = omega arith
+entry-place (Pending Joypad) = omega arith
 
-interrupt-or-not : (i : ℕ) (t : Bool) → isPending i ≡ t → OutcomeRanged (if t then RunningInterrupt i else Normal)
-interrupt-or-not i true e = ltb-true i 5 e
-interrupt-or-not i false e = tt
+interrupt-or-not : (i : NextInterrupt) → OutcomeRanged (dispatchedAs i)
+interrupt-or-not NonePending = tt
+interrupt-or-not (Pending i) = tt
 
 -- a byte names no vector out of range
 decode-ranged : (b : ℕ) → Byte b → T (vectorInRange (decode b))
@@ -45,17 +46,17 @@ fetched-ranged s true r = r
 fetched-ranged s false r = ranged-pc (s .registers) r (next (pc s)) (omega arith)
 
 module _ {R : Type 0} {Q : R → Type 0} where
-  stored-and-taken : (a v : ℕ) → Place a → Byte v → Keeps Q (λ (i : ℕ). i ≤ 5) (storeAndTake a v)
-  stored-and-taken a v p q = record { from = λ s k r h. (p, q, λ i l. h i s l r) }
+  stored-and-taken : (a v : ℕ) → Place a → Byte v → Keeps Q Any (storeAndTake a v)
+  stored-and-taken a v p q = record { from = λ s k r h. (p, q, λ i. h i s tt r) }
 
   dispatch-keeps : Keeps Q OutcomeRanged dispatch
   dispatch-keeps =
       said ⟫= λ s hs. stored-and-taken (back (sp s)) (highByte (pc s)) (omega arith) (omega arith) ⟫= λ i hi.
       stored Stack (back (back (sp s))) (lowByte (pc s)) (omega arith) (omega arith) ⟫ waited ⟫ waited ⟫ waited ⟫
       changed (setSP (back (back (sp s)))) (λ t r. ranged-sp (t .registers) r (back (back (sp s))) (omega arith)) ⟫
-      changed (setPC (vector i)) (λ t r. ranged-pc (t .registers) r (vector i) (vector-place i)) ⟫
+      changed (setPC (entryOf i)) (λ t r. ranged-pc (t .registers) r (entryOf i) (entry-place i)) ⟫
       changed (setIme false) (λ t r. r) ⟫
-      given (if isPending i then RunningInterrupt i else Normal) (interrupt-or-not i (isPending i) refl)
+      given (dispatchedAs i) (interrupt-or-not i)
 
   instruction-keeps : Keeps Q OutcomeRanged instruction
   unfolding instruction fetched

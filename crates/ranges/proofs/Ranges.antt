@@ -10,12 +10,13 @@ use lib.Seq.{getD-set-same, getD-set-other, set-out}
 use borrow.Author.Tests.{ltb-true, ltb-false, eqb-true, eqb-false}
 use Rattle.sm83.specs.declared.Cpu.{Cpu}
 use Rattle.sm83.specs.Basics.{if_then_else_, cleared}
-use Rattle.definition.specs.Bus.{Kind, Stack, Ask, answer, read, write, idle, peek, writeAndTake, Bus, runOn, byteAt, pending, taken, plain}
-use Rattle.outcome.specs.Numbers.{isPending}
+use Rattle.definition.specs.Bus.{Kind, Stack, Ask, answer, read, write, idle, peek, writeAndTake, Bus, runOn, byteAt, pending, without, taken, plain}
+use Rattle.outcome.specs.declared.interrupt.NextInterrupt.{NextInterrupt}
+use Rattle.outcome.specs.declared.interrupt.NextInterrupt.the-variants.{NonePending, Pending}
+use Rattle.outcome.specs.Numbers.{interruptNumber}
 use Rattle.definition.specs.Step.{Ended, ended, stepTree, Admission, accepted, refusedAs, admission, admitted, stepOn}
 use Rattle.definition.specs.Run.{runFor}
 use Rattle.ranges.proofs.Ranged.{Ranged, cleared-byte}
-use Rattle.definition.proofs.Interrupts.{pending-most}
 use Rattle.ranges.proofs.Keeping.{Safe}
 use Rattle.ranges.proofs.KeepingExecution.{OutcomeRanged}
 use Rattle.ranges.proofs.KeepingStep.{step-keeps}
@@ -32,7 +33,6 @@ pub record Sized {W : Type 0} (b : Bus W) : Type 0 where
 -- A memory that shows bytes while it is good, and stays good when bytes are written at its addresses.
 pub record Lawful {W : Type 0} (b : Bus W) (Good : W → Type 0) : Type 0 where
   pub shows : (m : W) (a : ℕ) → Good m → a < 65536 → b .sees m a < 256
-  pub peeks-at : (m : W) → Good m → b .peeks m ≤ 5
   pub read-good : (k : Kind) (m : W) (a : ℕ) → Good m → a < 65536 → Good (b .afterRead k m a)
   pub write-good : (k : Kind) (m : W) (a v : ℕ) → Good m → a < 65536 → v < 256 → Good (b .afterWrite k m a v)
   pub idle-good : (m : W) → Good m → Good (b .afterIdle m)
@@ -81,11 +81,11 @@ module _ {W : Type 0} (b : Bus W) (Good : W → Type 0) (law : Lawful b Good) wh
       tree-ranges Q (f (b .sees m a)) (b .afterRead k m a) (h .1 (b .sees m a) (law .shows m a g (h .0))) (law .read-good k m a g (h .0))
   tree-ranges Q (write k a v p) m h g = tree-ranges Q p (b .afterWrite k m a v) (h .2) (law .write-good k m a v g (h .0) (h .1))
   tree-ranges Q (idle p) m h g = tree-ranges Q p (b .afterIdle m) h (law .idle-good m g)
-  tree-ranges Q (peek f) m h g = tree-ranges Q (f (b .peeks m)) (b .afterPeek m) (h (b .peeks m) (law .peeks-at m g)) (law .peek-good m g)
+  tree-ranges Q (peek f) m h g = tree-ranges Q (f (b .peeks m)) (b .afterPeek m) (h (b .peeks m)) (law .peek-good m g)
   tree-ranges Q (writeAndTake a v f) m h g =
       let w : W = b .afterWrite Stack m a v in
       let good : Good w = law .write-good Stack m a v g (h .0) (h .1) in
-      tree-ranges Q (f (b .peeks w)) (b .afterTake w) (h .2 (b .peeks w) (law .peeks-at w good)) (law .take-good w good)
+      tree-ranges Q (f (b .peeks w)) (b .afterTake w) (h .2 (b .peeks w)) (law .take-good w good)
 
   tree-safe : (s : Cpu) → Ranged (s .registers) → Safe EndRanged (stepTree s)
   tree-safe s r = step-keeps .from s ended r (λ o t p q. (p, q))
@@ -108,9 +108,9 @@ module _ {W : Type 0} (b : Bus W) (Good : W → Type 0) (law : Lawful b Good) wh
 abbrev pub Bytes : List ℕ → Type 0
 Bytes m = (a : ℕ) → byteAt m a < 256
 
-taken-length : (m : List ℕ) (t : Bool) (a v : ℕ) → length (if t then set m a v else m) ≡ length m
-taken-length m true a v = length-set m a v
-taken-length m false a v = refl
+taken-length : (m : List ℕ) (i : NextInterrupt) → length (without i m) ≡ length m
+taken-length m NonePending = refl
+taken-length m (Pending i) = length-set m 0xff0f _
 
 pub plain-sized : Sized plain
 unfolding taken
@@ -120,7 +120,7 @@ plain-sized =
       by-write = λ k m a v. length-set m a v;
       by-idle = λ m. refl;
       by-peek = λ m. refl;
-      by-take = λ m. taken-length m (isPending (pending m)) 0xff0f (cleared (pending m) (byteAt m 0xff0f));
+      by-take = λ m. taken-length m (pending m);
     }
 
 pub step-length : (s : Cpu) (m : List ℕ) → length (stepOn plain s m .memory) ≡ length m
@@ -138,19 +138,18 @@ set-bytes m a v x true e g p =
     subst (λ (y : ℕ). byteAt (set m a v) y < 256) (sym (eqb-true x a e)) (set-there m a v (ltb a (length m)) refl g p)
 set-bytes m a v x false e g p = subst (λ (y : ℕ). y < 256) (sym (getD-set-other m a x v 0 (eqb-false x a e))) (g x)
 
-taken-bytes : (m : List ℕ) (t : Bool) (v : ℕ) → v < 256 → Bytes m → Bytes (if t then set m 0xff0f v else m)
-taken-bytes m true v p g = λ x. set-bytes m 0xff0f v x (eqb x 0xff0f) refl g p
-taken-bytes m false v p g = g
+taken-bytes : (m : List ℕ) (i : NextInterrupt) → Bytes m → Bytes (without i m)
+taken-bytes m NonePending g = g
+taken-bytes m (Pending i) g = λ x. set-bytes m 0xff0f _ x (eqb x 0xff0f) refl g (cleared-byte (interruptNumber i) (byteAt m 0xff0f) (g 0xff0f))
 
 pub plain-lawful : Lawful plain Bytes
 unfolding taken
 plain-lawful =
     record {
       shows = λ m a g p. g a;
-      peeks-at = λ m g. pending-most m;
       read-good = λ k m a g p. g;
       write-good = λ k m a v g p q x. set-bytes m a v x (eqb x a) refl g q;
       idle-good = λ m g. g;
       peek-good = λ m g. g;
-      take-good = λ m g. taken-bytes m (isPending (pending m)) (cleared (pending m) (byteAt m 0xff0f)) (cleared-byte (pending m) (byteAt m 0xff0f) (g 0xff0f)) g;
+      take-good = λ m g. taken-bytes m (pending m) g;
     }

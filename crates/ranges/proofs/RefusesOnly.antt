@@ -15,11 +15,12 @@ use Rattle.outcome.specs.declared.Outcome.{Outcome}
 use Rattle.outcome.specs.declared.Outcome.the-variants.{Normal, InfiniteLoop, Halting, RunningHDMA, Stopped, RunningInterrupt, Breakpoint, Refused}
 use Rattle.sm83.specs.Basics.{if_then_else_, highByte, back}
 use Rattle.definition.specs.Bus.{Access, Fetch, Stack, Bus, Ran, runOn, byteAt, plain}
-use Rattle.outcome.specs.Numbers.{isPending}
+use Rattle.outcome.specs.declared.interrupt.NextInterrupt.{NextInterrupt}
+use Rattle.outcome.specs.declared.interrupt.NextInterrupt.the-variants.{NonePending, Pending}
 use Rattle.sm83.specs.State.{pc, sp, flags}
 use Rattle.opcodes.specs.Instruction.{Instruction, does, goes, CB-prefix, HALT, STOP, EI, LD-B-B, ILLEGAL, decode}
 use Rattle.definition.specs.Execution.{execute}
-use Rattle.definition.specs.Step.{enabled, fetched, instruction, Ended, ended, Admission, accepted, refusedAs, admitted, stepOn}
+use Rattle.definition.specs.Step.{dispatchedAs, enabled, fetched, instruction, Ended, ended, Admission, accepted, refusedAs, admitted, stepOn}
 use Rattle.outcome.specs.Numbers.{numberOf}
 use Rattle.definition.specs.Run.{runFor}
 use Rattle.outcome.specs.declared.LastOutcome.the-variants.{Last}
@@ -51,9 +52,9 @@ refusalNumber (Refused r) = numberOf r
 not-refused : {o : Outcome} {r : Refusal} → T (not (refuses o)) → o ≡ Refused r → ⊥
 not-refused h e = subst (λ (x : Outcome). T (not (refuses x))) e h
 
-interrupt-not-refused : (t : Bool) (i : ℕ) → T (not (refuses (if t then RunningInterrupt i else Normal)))
-interrupt-not-refused true i = tt
-interrupt-not-refused false i = tt
+interrupt-not-refused : (i : NextInterrupt) → T (not (refuses (dispatchedAs i)))
+interrupt-not-refused NonePending = tt
+interrupt-not-refused (Pending i) = tt
 
 module _ {W : Type 0} (b : Bus W) where
   decoded : (u : Cpu) (v : W) (r : Refusal) (x : Bool) → isIllegal (decode (b .sees v (pc u))) ≡ x → runOn b (execute (pc u) (decode (b .sees v (pc u))) (fetched u) ended) (b .afterRead Fetch v (pc u)) .value .outcome ≡ Refused r → (decode (b .sees v (pc u)) ≡ ILLEGAL) × (3 ≡ numberOf r)
@@ -75,7 +76,7 @@ module _ {W : Type 0} (b : Bus W) where
   by-course s m x r z f (point2 p q) e = absurd (not-refused tt e)
   by-course s m x r z f (point3 p q a i) e = absurd (not-refused tt e)
   by-course s m x r z f (point4 p q l t w woke i j) e =
-      absurd (not-refused (interrupt-not-refused (isPending (b .peeks (b .afterWrite Stack (b .afterPeek w) (back (sp t)) (highByte (pc t))))) _) e)
+      absurd (not-refused (interrupt-not-refused (b .peeks (b .afterWrite Stack (b .afterPeek w) (back (sp t)) (highByte (pc t))))) e)
   by-course s m x r z f (points5to7 p q l t w v woke passed) e =
       let h : (decode (b .sees v (pc t)) ≡ ILLEGAL) × (3 ≡ numberOf r) = instruction-refused t v r e in
       subst (Why b s m) (h .1) (illegal-opcode z f p q woke passed (subst (λ (a : ℕ). decode (b .sees v a) ≡ ILLEGAL) (woke-pc b woke) (h .0)))
