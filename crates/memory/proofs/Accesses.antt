@@ -5,6 +5,7 @@ use mathlib.Core.List.{List}
 use Prim.Native.Nat.{ℕ}
 use lib.ListN.{set, length}
 use Rattle.sm83.specs.PowerOn.{cpu-zero}
+use Rattle.outcome.specs.declared.interrupt.NextInterrupt.{NextInterrupt}
 use Rattle.outcome.specs.declared.Outcome.the-variants.{Normal}
 use Rattle.definition.specs.Bus.{Kind, Stack, Ask, answer, byteAt, pending, taken}
 use Rattle.definition.specs.Step.{Ended}
@@ -24,7 +25,7 @@ module _ (port port' : Port) (m m' : List ℕ) (e : port' ≡ counted port) (who
   unfolding leads accessing
   has-waited e1 = record { there = λ rest. simp (e, e1); whole = whole }
 
-pub has-peeked : (m m' : List ℕ) (i : ℕ) → i ≡ pending m → m' ≡ m → length m' ≡ 65536 → Peeks m i m'
+pub has-peeked : (m m' : List ℕ) (i : NextInterrupt) → i ≡ pending m → m' ≡ m → length m' ≡ 65536 → Peeks m i m'
 unfolding leads accessing
 has-peeked m m' i e1 e2 whole = record { there = λ port rest. simp (e1, e2); whole = whole }
 
@@ -33,11 +34,11 @@ left-by : (k : Kind) (a v : ℕ) (port port' : Port) (m m' : List ℕ) → Write
 unfolding leads
 left-by k a v port port' m m' h = ap (λ (l : Led Ended). l .left) (h .there (answer (record { outcome = Normal; cpu = cpu-zero false })))
 
-takes : (port : Port) (m m' : List ℕ) (i : ℕ) (rest : ℕ → Ask Ended) → i ≡ pending m → m' ≡ taken m → leads (rest (asked (world port m))) (afterTake (world port m)) ≡ leads (rest i) (world port m')
+takes : (port : Port) (m m' : List ℕ) (i : NextInterrupt) (rest : NextInterrupt → Ask Ended) → i ≡ pending m → m' ≡ taken m → leads (rest (asked (world port m))) (afterTake (world port m)) ≡ leads (rest i) (world port m')
 unfolding accessing
 takes port m m' i rest e1 e2 = simp (e1, e2)
 
-pub has-taken : (a v i : ℕ) (port port' : Port) (m m1 m2 : List ℕ) → Writes Stack a v port m port' m1 → i ≡ pending m1 → m2 ≡ taken m1 → length m2 ≡ 65536 → Takes a v port m i port' m2
+pub has-taken : (a v : ℕ) (i : NextInterrupt) (port port' : Port) (m m1 m2 : List ℕ) → Writes Stack a v port m port' m1 → i ≡ pending m1 → m2 ≡ taken m1 → length m2 ≡ 65536 → Takes a v port m i port' m2
 unfolding leads
 has-taken a v i port port' m m1 m2 w e1 e2 whole = record {
   there = λ rest. ap (λ (x : World). leads (rest (asked x)) (afterTake x)) (left-by Stack a v port port' m m1 w) ∙ takes port' m1 m2 i rest e1 e2;

@@ -4,6 +4,7 @@ use mathlib.Core.List.{List}
 use Prim.Native.Nat.{ℕ, suc, _+_, _%_, _<_}
 use native.Mathlib.Omega.{arith}
 use lib.ListN.{set}
+use Rattle.outcome.specs.declared.interrupt.NextInterrupt.{NextInterrupt}
 use Rattle.definition.specs.Bus.{Kind, Stack, Ask, answer, read, write, idle, peek, writeAndTake, Bus, Ran, runOn, mcycles, byteAt, pending, taken}
 use Rattle.memory.specs.World.{World, Led, shown, afterRead, afterWrite, afterIdle, asked, afterTake, accessing, leads, behind}
 
@@ -69,14 +70,14 @@ module _ {U : Type 0} (b : Bus U) (R : World → U → Type 0) where
         let q = follow p (afterIdle w) (b .afterIdle v) (small (cycles w) _ (one-idle w)) (f .by-idle w v r) in
         record { value = q .value; memory = q .memory; counts = one-more (cycles w) _ _ _ (one-idle w) (q .counts) }
     follow (peek g) w v s r =
-        subst (λ (x : ℕ). Followed (leads (g (asked w)) w) w (runOn b (g x) (b .afterPeek v))) (f .asks w v r) (follow (g (asked w)) w (b .afterPeek v) s (f .by-peek w v r))
+        subst (λ (x : NextInterrupt). Followed (leads (g (asked w)) w) w (runOn b (g x) (b .afterPeek v))) (f .asks w v r) (follow (g (asked w)) w (b .afterPeek v) s (f .by-peek w v r))
     follow (writeAndTake a x g) w v s r =
         let w1 : World = afterWrite Stack w a x in
         let v1 : U = b .afterWrite Stack v a x in
         let r1 : R w1 v1 = f .by-write Stack w v a x r in
         let once : cycles (afterTake w1) ≡ (cycles w + 1) % 4294967296 = no-take w1 ∙ one-write Stack w a x in
         let q = follow (g (asked w1)) (afterTake w1) (b .afterTake v1) (small (cycles w) _ once) (f .by-take w1 v1 r1) in
-        subst (λ (y : ℕ). Followed (leads (g (asked w1)) (afterTake w1)) w (runOn b (writeAndTake a x (λ _. g y)) v)) (f .asks w1 v1 r1)
+        subst (λ (y : NextInterrupt). Followed (leads (g (asked w1)) (afterTake w1)) w (runOn b (writeAndTake a x (λ _. g y)) v)) (f .asks w1 v1 r1)
         (record { value = q .value; memory = q .memory; counts = one-more (cycles w) _ _ _ once (q .counts) })
 
     -- where a tree is known to lead

@@ -1,22 +1,25 @@
 -- Taking an interrupt: what is left of the bytes where one is pending, and where none is.
-use mathlib.Core.Bool.{true, false}
-use mathlib.Core.Path.{_≡_}
+use mathlib.Core.Path.{_≡_, ap, sym, _∙_}
 use mathlib.Core.List.{List}
-use Prim.Native.Nat.{ℕ, _%_, _<_}
+use Prim.Native.Nat.{ℕ, _%_}
 use native.Mathlib.Omega.{arith}
-use lib.Dec.{ltb}
 use lib.ListN.{set}
-use borrow.Author.Tests.{ltb-true}
-use Rattle.sm83.specs.Basics.{if_then_else_, cleared}
-use Rattle.definition.specs.Bus.{byteAt, pending, taken}
+use Rattle.sm83.specs.Basics.{cleared}
+use Rattle.outcome.specs.declared.interrupt.InterruptType.{InterruptType}
+use Rattle.outcome.specs.declared.interrupt.NextInterrupt.{NextInterrupt}
+use Rattle.outcome.specs.declared.interrupt.NextInterrupt.the-variants.{NonePending, Pending}
+use Rattle.outcome.specs.Numbers.{interruptNumber}
+use Rattle.outcome.proofs.Told.{one-of-five}
+use Rattle.definition.specs.Bus.{byteAt, pending, without, taken}
 
-small : (i : ℕ) → ltb i 5 ≡ true → i % 8 ≡ i
-small i e = let h : i < 5 = ltb-true i 5 e in omega arith
+-- an interrupt's number is that of a bit
+pub its-bit : (i : InterruptType) → interruptNumber i % 8 ≡ interruptNumber i
+its-bit i = omega (arith, one-of-five i)
 
-pub one-taken : (m m' : List ℕ) (i : ℕ) → i ≡ pending m → ltb i 5 ≡ true → m' ≡ set m 0xff0f (cleared (i % 8) (byteAt m 0xff0f)) → m' ≡ taken m
+pub one-taken : (m m' : List ℕ) (n : NextInterrupt) (i : InterruptType) → n ≡ pending m → n ≡ Pending i → m' ≡ set m 0xff0f (cleared (interruptNumber i) (byteAt m 0xff0f)) → m' ≡ taken m
 unfolding taken
-one-taken m m' i e some e' = simp (e', small i some, ← e, some)
+one-taken m m' n i e some left = left ∙ ap (λ (x : NextInterrupt). without x m) (sym some ∙ e)
 
-pub none-taken : (m : List ℕ) (i : ℕ) → i ≡ pending m → ltb i 5 ≡ false → m ≡ taken m
+pub none-taken : (m : List ℕ) (n : NextInterrupt) → n ≡ pending m → n ≡ NonePending → m ≡ taken m
 unfolding taken
-none-taken m i e none = simp (← e, none)
+none-taken m n e none = ap (λ (x : NextInterrupt). without x m) (sym none ∙ e)

@@ -4,6 +4,7 @@ use mathlib.Core.List.{List}
 use Prim.Native.Nat.{ℕ, _+_, _%_}
 use lib.ListN.{set, length}
 use Rattle.sm83.specs.declared.MCycles.{MCycles}
+use Rattle.outcome.specs.declared.interrupt.NextInterrupt.{NextInterrupt}
 use Rattle.definition.specs.Bus.{Bus, Kind, Fetch, Operand, Stack, Ask, answer, read, write, idle, peek, writeAndTake, byteAt, pending, taken, plain}
 use Rattle.definition.specs.Step.{Ended}
 use Rattle.memory.specs.declared.AccessKind.{AccessKind}
@@ -41,7 +42,7 @@ afterWrite k w a v = world (counted (w .port)) (set (w .bytes) a v)
 unfoldable pub afterIdle : World → World
 afterIdle w = world (counted (w .port)) (w .bytes)
 
-unfoldable pub asked : World → ℕ
+unfoldable pub asked : World → NextInterrupt
 asked w = pending (w .bytes)
 
 unfoldable pub afterTake : World → World
@@ -91,11 +92,11 @@ Writes k a v = Leaves (write k a v)
 abbrev pub Idles : Port → List ℕ → Port → List ℕ → Type 0
 Idles = Leaves idle
 
-abbrev pub Peeks : List ℕ → ℕ → List ℕ → Type 0
+abbrev pub Peeks : List ℕ → NextInterrupt → List ℕ → Type 0
 Peeks = Looks peek
 
 -- the push that takes an interrupt
-abbrev pub Takes : ℕ → ℕ → Port → List ℕ → ℕ → Port → List ℕ → Type 0
+abbrev pub Takes : ℕ → ℕ → Port → List ℕ → NextInterrupt → Port → List ℕ → Type 0
 Takes a v = Gives (writeAndTake a v)
 
 -- What a contract asks that asks for more than a memory of 65,536 bytes.

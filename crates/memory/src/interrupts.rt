@@ -1,17 +1,19 @@
-// Interrupts on plain memory: 0 to 4, and 5 for none. Peeking at one costs nothing; taking it is part of the push that does.
+// Interrupts on plain memory. Peeking at one costs nothing; taking it is part of the push that does.
 ghost use mathlib.Core.Path.{_≡_};
 ghost use lib.ListN.{length};
 ghost use Rattle.definition.specs.Bus.{lowest};
 ghost use Rattle.memory.specs.World.{Peeks, Takes};
 ghost use Rattle.memory.specs.Requests.{Sees, Clears, SeesAndTakes};
 use crate::AccessKind;
-use crate::Got;
 use crate::Port;
 use crate::write;
 use bitwise::bits::res;
+use outcome::interrupt::InterruptType;
+use outcome::interrupt::NextInterrupt;
 use sm83::Addr;
 
-fn lowest(x: u8) -> u8
+// "the lowest set bit wins"
+fn lowest(x: u8) -> NextInterrupt
     ensures { λ r. ⌜ r ≡ lowest x ⌝ }
 {
     let first = x % 2 == 1;
@@ -20,22 +22,22 @@ fn lowest(x: u8) -> u8
     let fourth = x / 8 % 2 == 1;
     let fifth = x / 16 % 2 == 1;
     if first {
-        0
+        NextInterrupt::Pending(InterruptType::Vblank)
     } else if second {
-        1
+        NextInterrupt::Pending(InterruptType::LcdStat)
     } else if third {
-        2
+        NextInterrupt::Pending(InterruptType::Timer)
     } else if fourth {
-        3
+        NextInterrupt::Pending(InterruptType::Serial)
     } else if fifth {
-        4
+        NextInterrupt::Pending(InterruptType::Joypad)
     } else {
-        5
+        NextInterrupt::NonePending
     }
 }
 
 // The lowest bit that is requested and enabled, of the bytes as they lie there; the processor peeks.
-pub fn lowest_pending(mem: &mut [u8]) -> u8
+pub fn lowest_pending(mem: &mut [u8]) -> NextInterrupt
     requires { ⌜ length (now mem) ≡ 65536 ⌝ }
     ensures { λ r. ⌜ Sees (now (mem .entry)) r (now (mem .exit)) ⌝ }
 {
@@ -44,46 +46,52 @@ pub fn lowest_pending(mem: &mut [u8]) -> u8
     lowest(requested & enabled & 0x1f)
 }
 
-pub fn peek_next_interrupt(mem: &mut [u8]) -> u8
+pub fn peek_next_interrupt(mem: &mut [u8]) -> NextInterrupt
     requires { ⌜ length (now mem) ≡ 65536 ⌝ }
     ensures { λ r. ⌜ Peeks (now (mem .entry)) r (now (mem .exit)) ⌝ }
 {
     lowest_pending(mem)
 }
 
-fn acknowledge(mem: &mut [u8], interrupt: u8)
+fn acknowledge(mem: &mut [u8], interrupt: InterruptType)
     requires { ⌜ length (now mem) ≡ 65536 ⌝ }
     ensures { λ r. ⌜ Clears interrupt (now (mem .entry)) (now (mem .exit)) ⌝ }
 {
     let requested = mem[0xff0f];
-    let left = res(interrupt, requested);
+    let left = res(interrupt.number(), requested);
     mem[0xff0f] = left;
 }
 
 // Clears the bit of the interrupt that it answers.
-fn take_next_interrupt(mem: &mut [u8]) -> u8
+fn take_next_interrupt(mem: &mut [u8]) -> NextInterrupt
     requires { ⌜ length (now mem) ≡ 65536 ⌝ }
     ensures { λ r. ⌜ SeesAndTakes (now (mem .entry)) r (now (mem .exit)) ⌝ }
 {
-    let interrupt = lowest_pending(mem);
-    let some = interrupt < 5;
-    if some {
-        acknowledge(mem, interrupt);
-        interrupt
-    } else {
-        interrupt
+    let next = lowest_pending(mem);
+    match next {
+        NextInterrupt::NonePending => next,
+        NextInterrupt::Pending(interrupt) => {
+            acknowledge(mem, interrupt);
+            NextInterrupt::Pending(interrupt)
+        }
     }
 }
 
+// What the push that takes answers.
+pub struct Taken {
+    pub port: Port,
+    pub next: NextInterrupt,
+}
+
 // The push that takes an interrupt: one access.
-pub fn write_and_take(port: Port, mem: &mut [u8], a: Addr, v: u8) -> Got
+pub fn write_and_take(port: Port, mem: &mut [u8], a: Addr, v: u8) -> Taken
     requires { ⌜ length (now mem) ≡ 65536 ⌝ }
-    ensures { λ r. ⌜ Takes (a .0) v port (now (mem .entry)) (r .value) (r .port) (now (mem .exit)) ⌝ }
+    ensures { λ r. ⌜ Takes (a .0) v port (now (mem .entry)) (r .next) (r .port) (now (mem .exit)) ⌝ }
 {
     let p = write(port, mem, AccessKind::Stack, a, v);
-    let interrupt = take_next_interrupt(mem);
-    Got {
+    let next = take_next_interrupt(mem);
+    Taken {
         port: p,
-        value: interrupt,
+        next: next,
     }
 }
