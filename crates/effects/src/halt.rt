@@ -20,8 +20,8 @@ pub fn halt(cpu: Cpu, port: Port, mem: &mut [u8]) -> Worked
     if ime {
         plain(with_halt(cpu, HaltMode::HaltRunInterrupt), port, 0)
     } else {
-        let interrupt = peek_next_interrupt(mem);
-        let some = interrupt < 5;
+        let next = peek_next_interrupt(mem);
+        let some = next.is_pending();
         if some {
             plain(with_halt(cpu, HaltMode::HaltBug), port, 0)
         } else {

@@ -8,6 +8,7 @@ use lib.Dec.{eqb, ltb}
 use lib.ListN.{length}
 use borrow.Author.Tests.{eq-eqb, ne-eqb, lt-ltb, le-ltb}
 use Rattle.definition.specs.Bus.{byteAt, pending}
+use Rattle.outcome.specs.declared.interrupt.NextInterrupt.{NextInterrupt}
 use Rattle.outcome.specs.Numbers.{isPending}
 use Rattle.fields.specs.Bytes.{wordAt}
 use Rattle.records.specs.Bytes.{part}
@@ -15,9 +16,9 @@ use Rattle.records.specs.Record.{kindOf, memoryLength, listed, memoryFro
 use Rattle.records.specs.Notes.{counted, fetches, opcodeOf, prefixNoted, fetchNoted, opcodeNoted, runNoted, noted}
 
 -- the opcode that is fetched
-module _ (s m m' : List ℕ) {peek : ℕ} {f : Bool} (peeked : peek ≡ pending m) (kept : m' ≡ m) (told : f ≡ fetches s (ltb peek 5)) where
+module _ (s m m' : List ℕ) {peek : NextInterrupt} {w f : Bool} (peeked : peek ≡ pending m) (kept : m' ≡ m) (waits : w ≡ isPending peek) (told : f ≡ fetches s w) where
   decided : {t : Bool} → f ≡ t → fetches s (isPending (pending m)) ≡ t
-  decided h = sym (told ∙ ap (λ (k : ℕ). fetches s (ltb k 5)) peeked) ∙ h
+  decided h = sym (told ∙ ap (fetches s) (waits ∙ ap isPending peeked)) ∙ h
 
   pub not-fetched : f ≡ false → 1536 ≡ opcodeOf s m
   unfolding opcodeOf

@@ -47,7 +47,8 @@ fn opcode(state: &[u8], mem: &mut [u8]) -> usize
     requires { ⌜ (24 ≤ length (now state)) × (length (now mem) ≡ 65536) ⌝ }
     ensures { λ r. ⌜ r ≡ opcodeOf (now (state .entry)) (now (mem .entry)) ⌝ }
 {
-    let waiting = lowest_pending(mem) < 5;
+    let next = lowest_pending(mem);
+    let waiting = next.is_pending();
     let fetched = fetches(state, waiting);
     if fetched {
         let pc = word_at(state, 10);

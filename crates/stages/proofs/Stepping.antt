@@ -1,24 +1,24 @@
 -- Points 1 to 4: what the callees answer comes to the definition's step, one law for each way through it.
 use mathlib.Core.Path.{_≡_, refl, ap, sym, _∙_}
 use mathlib.Core.Bool.{Bool, true, false}
-use mathlib.Core.List.{List, [], _∷_}
-use Prim.Native.Nat.{ℕ, _≤_}
-use lib.ListN.{List·getD-eq-default}
+use mathlib.Core.List.{List}
+use Prim.Native.Nat.{ℕ}
 use Rattle.sm83.specs.declared.Cpu.{Cpu}
 use Rattle.sm83.specs.declared.HaltMode.the-variants.{NotHalting}
 use Rattle.outcome.specs.declared.Outcome.{Outcome}
 use Rattle.outcome.specs.declared.Outcome.the-variants.{Halting, Stopped, RunningHDMA}
 use Rattle.sm83.specs.Basics.{if_then_else_, back, highByte, lowByte}
 use Rattle.definition.specs.Bus.{Stack, Ask, write, idle}
+use Rattle.outcome.specs.declared.interrupt.NextInterrupt.{NextInterrupt}
 use Rattle.outcome.specs.Numbers.{isPending}
 use Rattle.sm83.specs.State.{pc, sp, setPC, setSP, setIme, setHalt}
 use Rattle.definition.specs.Execution.{Does, _>>=_, _>>_, give, wait, asked}
-use Rattle.definition.specs.Step.{Ended, isAsleep, vector, dispatch, instruction, awake, woken, rested, step}
+use Rattle.definition.specs.Step.{Ended, isAsleep, entryOf, dispatchedAs, dispatch, instruction, awake, woken, rested, step}
 use Rattle.opcodes.proofs.Choices.{if-so, if-not}
 use Rattle.memory.specs.declared.Port.{Port}
 use Rattle.memory.specs.World.{World, world, leads, Looks, Writes, Idles, Peeks, Takes}
 use Rattle.accesses.specs.Leads.{Leads, LeadsTo}
-use Rattle.stages.specs.Stages.{afterHalt, called, dispatched}
+use Rattle.stages.specs.Stages.{afterHalt, called}
 
 -- what is chosen leads where the choice leads
 so : (b : Bool) (p q : Does Ended Outcome) (s : Cpu) (k : Outcome → Cpu → Ask Ended) (w : World) → b ≡ true → leads ((if b then p else q) s k) w ≡ leads (p s k) w
@@ -27,21 +27,17 @@ so b p q s k w e = ap (λ (d : Does Ended Outcome). leads (d s k) w) (if-so p q 
 not-so : (b : Bool) (p q : Does Ended Outcome) (s : Cpu) (k : Outcome → Cpu → Ask Ended) (w : World) → b ≡ false → leads ((if b then p else q) s k) w ≡ leads (q s k) w
 not-so b p q s k w e = ap (λ (d : Does Ended Outcome). leads (d s k) w) (if-not p q e)
 
--- "If none is left, PC is 0"
-pub nowhere : (i : ℕ) → 5 ≤ i → 0 ≡ vector i
-nowhere i h = sym (List·getD-eq-default (0x40 ∷ 0x48 ∷ 0x50 ∷ 0x58 ∷ 0x60 ∷ []) 0 h)
-
 -- 4. "SP less 1, write PC's high byte, peek again and take .."
-pub dispatches : (s : Cpu) (port p q t u v : Port) (m m1 m2 m3 m4 m5 : List ℕ) (first second i to : ℕ) (o : Outcome) →
+pub dispatches : (s : Cpu) (port p q t u v : Port) (m m1 m2 m3 m4 m5 : List ℕ) (first second : ℕ) (i : NextInterrupt) (to : ℕ) (o : Outcome) →
     first ≡ back (sp s) → Takes first (highByte (pc s)) port m i p m1 → second ≡ back first → Writes Stack second (lowByte (pc s)) p m1 q m2 →
-    Idles q m2 t m3 → Idles t m3 u m4 → Idles u m4 v m5 → to ≡ vector i → o ≡ dispatched i →
+    Idles q m2 t m3 → Idles t m3 u m4 → Idles u m4 v m5 → to ≡ entryOf i → o ≡ dispatchedAs i →
     Leads dispatch s port m o (setIme false (setPC to (setSP second s))) v m5
 dispatches s port p q t u v m m1 m2 m3 m4 m5 first second i to o e1 h1 e2 h2 h3 h4 h5 e3 e4 k =
     simp (e4, e3, ← e1, ← e2) (h1 .there (λ x. write Stack second (lowByte (pc s)) (rest x)) ∙ h2 .there (rest i) ∙ h3 .there _ ∙ h4 .there _ ∙ h5 .there _)
   where
     -- the three idle accesses, and where the step ends
-    rest : ℕ → Ask Ended
-    rest x = idle (idle (idle (k (dispatched x) (setIme false (setPC (vector x) (setSP second s))))))
+    rest : NextInterrupt → Ask Ended
+    rest x = idle (idle (idle (k (dispatchedAs x) (setIme false (setPC (entryOf x) (setSP second s))))))
 
 -- 4, or 5 to 7: by one test
 awakes : (s : Cpu) (k : Outcome → Cpu → Ask Ended) → awake s k ≡ called (s .ime) (λ c. (if c then dispatch else instruction) s k)
@@ -67,7 +63,7 @@ module _ (s : Cpu) (port : Port) (m : List ℕ) (asleep : Bool) (e : asleep ≡ 
   pub not-asleep : asleep ≡ false → LeadsTo (rested s) s port m (afterHalt false) s port m
   not-asleep a k = not-so _ _ awake s k (world port m) (sym e ∙ a)
 
-  module _ (p : Port) (m1 m2 : List ℕ) (i : ℕ) (a : asleep ≡ true) (h1 : Idles port m p m1) (h2 : Peeks m1 i m2) where
+  module _ (p : Port) (m1 m2 : List ℕ) (i : NextInterrupt) (a : asleep ≡ true) (h1 : Idles port m p m1) (h2 : Peeks m1 i m2) where
     peeked : LeadsTo (rested s) s port m (if isPending i then woken else give Halting) s p m2
     peeked k = so _ _ awake s k (world port m) (sym e ∙ a) ∙ h1 .there _ ∙ h2 .there p (λ x. (if isPending x then woken else give Halting) s k)
 

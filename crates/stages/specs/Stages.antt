@@ -7,7 +7,7 @@ use lib.Dec.{T}
 use Rattle.sm83.specs.declared.Cpu.{Cpu}
 use Rattle.sm83.specs.declared.HaltMode.the-variants.{NotHalting}
 use Rattle.outcome.specs.declared.Outcome.{Outcome}
-use Rattle.outcome.specs.declared.Outcome.the-variants.{Normal, Halting, RunningInterrupt}
+use Rattle.outcome.specs.declared.Outcome.the-variants.{Halting}
 use Rattle.sm83.specs.Basics.{if_then_else_}
 use Rattle.definition.specs.Bus.{Ask, peek}
 use Rattle.outcome.specs.Numbers.{isPending}
@@ -37,10 +37,6 @@ pub record Going (s : Cpu) (t u : List ℕ) : Type 0 where
 -- point 4: whether an interrupt is taken is asked only where IME is set
 abbrev pub called : Bool → (Bool → Ask Ended) → Ask Ended
 called ime rest = if ime then peek (λ i. rest (isPending i)) else rest false
-
--- how a dispatch ends
-abbrev pub dispatched : ℕ → Outcome
-dispatched i = if isPending i then RunningInterrupt i else Normal
 
 -- point 6, after the fetch, if HaltBug ends there: PC goes back to `at`
 abbrev pub unbugged : Cpu → ℕ → Cpu

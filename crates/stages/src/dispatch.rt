@@ -1,41 +1,47 @@
 // Point 4: an interrupt is taken.
 ghost use mathlib.Core.Path.{_≡_};
 ghost use lib.ListN.{length};
-ghost use Rattle.definition.specs.Step.{vector, dispatch};
+ghost use Rattle.definition.specs.Step.{vector, entryOf, dispatchedAs, dispatch};
 ghost use Rattle.memory.specs.World.{Looks};
 ghost use Rattle.accesses.specs.Leads.{Runs};
-ghost use Rattle.stages.specs.Stages.{called, dispatched};
+ghost use Rattle.stages.specs.Stages.{called};
 use crate::Executed;
 use memory::AccessKind;
 use memory::Port;
 use memory::interrupts::peek_next_interrupt;
 use memory::interrupts::write_and_take;
 use outcome::Outcome;
+use outcome::interrupt::InterruptType;
+use outcome::interrupt::NextInterrupt;
 use sm83::Addr;
 use sm83::Cpu;
 
 const INTERRUPTS_VECTOR: [u16; 5] = [0x40, 0x48, 0x50, 0x58, 0x60];
 
-// Where an interrupt goes; 0 if there is none.
-pub fn vector(interrupt: u8) -> u16
+// Where an interrupt goes.
+pub fn vector(interrupt: InterruptType) -> u16
     ensures { λ r. ⌜ r ≡ vector interrupt ⌝ }
 {
-    if interrupt < 5 {
-        INTERRUPTS_VECTOR[interrupt as usize]
-    } else {
-        0
+    INTERRUPTS_VECTOR[interrupt.number() as usize]
+}
+
+// "PC is its vector .. If none is left, PC is 0"
+pub fn entry_of(next: NextInterrupt) -> u16
+    ensures { λ r. ⌜ r ≡ entryOf next ⌝ }
+{
+    match next {
+        NextInterrupt::NonePending => 0,
+        NextInterrupt::Pending(interrupt) => vector(interrupt),
     }
 }
 
 // Which interrupt runs, or that it was cancelled.
-pub fn running(interrupt: u8) -> Outcome
-    ensures { λ r. ⌜ r ≡ dispatched interrupt ⌝ }
+pub fn dispatched_as(next: NextInterrupt) -> Outcome
+    ensures { λ r. ⌜ r ≡ dispatchedAs next ⌝ }
 {
-    let some = interrupt < 5;
-    if some {
-        Outcome::RunningInterrupt(interrupt)
-    } else {
-        Outcome::Normal
+    match next {
+        NextInterrupt::NonePending => Outcome::Normal,
+        NextInterrupt::Pending(interrupt) => Outcome::RunningInterrupt(interrupt),
     }
 }
 
@@ -49,14 +55,14 @@ pub fn dispatch(cpu: Cpu, port: Port, mem: &mut [u8]) -> Executed
     let sp = regs.sp;
     let first = sp.wrapping_sub(1);
     let got = write_and_take(port, mem, first, (pc.0 / 256) as u8);
-    let interrupt = got.value;
+    let next = got.next;
     let p = got.port;
     let second = first.wrapping_sub(1);
     let q = memory::write(p, mem, AccessKind::Stack, second, (pc.0 % 256) as u8);
     let t = memory::idle(q, mem);
     let u = memory::idle(t, mem);
     let v = memory::idle(u, mem);
-    let to = Addr(vector(interrupt));
+    let to = Addr(entry_of(next));
     regs.sp = second;
     regs.pc = to;
     let mut s = cpu;
@@ -65,7 +71,7 @@ pub fn dispatch(cpu: Cpu, port: Port, mem: &mut [u8]) -> Executed
     Executed {
         cpu: s,
         port: v,
-        outcome: running(interrupt),
+        outcome: dispatched_as(next),
     }
 }
 
@@ -75,8 +81,8 @@ pub fn is_called(ime: bool, mem: &mut [u8]) -> bool
     ensures { λ r. ⌜ Looks (called ime) (now (mem .entry)) r (now (mem .exit)) ⌝ }
 {
     if ime {
-        let interrupt = peek_next_interrupt(mem);
-        interrupt < 5
+        let next = peek_next_interrupt(mem);
+        next.is_pending()
     } else {
         false
     }

@@ -40,8 +40,8 @@ fn rest(cpu: Cpu, port: Port, mem: &mut [u8]) -> Woken
     ensures { λ r. ⌜ Wakes cpu port (now (mem .entry)) (r .halting) (r .cpu) (r .port) (now (mem .exit)) ⌝ }
 {
     let p = memory::idle(port, mem);
-    let interrupt = peek_next_interrupt(mem);
-    let some = interrupt < 5;
+    let next = peek_next_interrupt(mem);
+    let some = next.is_pending();
     if some {
         let s = with_halt(cpu, HaltMode::NotHalting);
         let dmg = cpu.dmg;

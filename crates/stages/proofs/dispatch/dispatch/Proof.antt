@@ -18,7 +18,7 @@ returns c =
     record {
       there = dispatches (c .before .before .before .before .before .before .before .before .before .before .before .before .before .before .before .before .before .before .before .before .before .before .before .before .before .before .before .before .before .before .before .args .cpu) _ _ _ _ _ _ _ _ _ _ _ _ _ _ _ _ _ (c .before .before .before .before .before .before .before .before .before .before .before .before .before .before .before .before .before .before .before .before .before .before .before .before .before .before .wrapping-sub .ensures) (take .ensures) (c .before .before .before .before .before .before .before .before .before .before .before .before .before .before .before .before .before .before .before .wrapping-sub2 .ensures)
           (write .ensures) (first .ensures) (second .ensures) (third .ensures)
-          (c .before .vector .ensures) (c .running .ensures);
+          (c .before .entry-of .ensures) (c .dispatched-as .ensures);
       whole = third .ensures .whole;
     }
 
