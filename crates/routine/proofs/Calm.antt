@@ -6,6 +6,7 @@ use native.Mathlib.Omega.{arith}
 use lib.Dec.{T}
 use Rattle.sm83.specs.declared.Cpu.{Cpu}
 use Rattle.sm83.specs.declared.HaltMode.the-variants.{NotHalting}
+use Rattle.outcome.specs.declared.interrupt.NextInterrupt.{NextInterrupt}
 use Rattle.outcome.specs.declared.Outcome.the-variants.{Normal}
 use Rattle.sm83.specs.Basics.{next}
 use Rattle.definition.specs.Bus.{Ask, answer, read, write, idle, peek, writeAndTake}
@@ -27,7 +28,7 @@ Ends K Q (answer e) = Q e
 Ends K Q (read k a f) = (v : ℕ) → K a v → Ends K Q (f v)
 Ends K Q (write k a v p) = Ends anything Q p
 Ends K Q (idle p) = Ends K Q p
-Ends K Q (peek f) = (v : ℕ) → Ends K Q (f v)
+Ends K Q (peek f) = (i : NextInterrupt) → Ends K Q (f i)
 Ends K Q (writeAndTake a v f) = ⊥
 
 -- Quiet, as a product that a change of registers other than F leaves as it is
