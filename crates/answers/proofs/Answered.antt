@@ -8,7 +8,7 @@ use lib.Seq.{sets}
 use Rattle.sm83.specs.declared.MCycles.{MCycles}
 use Rattle.sm83.specs.declared.CpuRegisters.{CpuRegisters}
 use Rattle.outcome.specs.declared.LastOutcome.{LastOutcome}
-use Rattle.outcome.specs.Numbers.{lastNumber}
+use Rattle.outcome.specs.Numbers.{lastSays}
 use Rattle.fields.specs.Bytes.{wordBytes, countBytes}
 use Rattle.fields.specs.Registers.{registerBytes}
 use Rattle.answers.specs.AnswerBlock.{shown, answerFields, answerBytes}
@@ -17,8 +17,8 @@ use Rattle.fields.proofs.Stores.{and-then, filling}
 module _ (last : LastOutcome) (steps : ℕ) (cycles : MCycles) (block : List ℕ) (right-length : length block ≡ 24) where
   pub answered :
       {number : ℕ} {registers : CpuRegisters} {numbered stepped counted showing cleared written : List ℕ} →
-      number ≡ lastNumber last →
-      registers ≡ shown last →
+      number ≡ lastSays last .number →
+      registers ≡ shown (lastSays last .values) →
       numbered ≡ sets block 0 (wordBytes number) →
       stepped ≡ sets numbered 2 (wordBytes steps) →
       counted ≡ sets stepped 4 (countBytes (cycles .0)) →
@@ -27,13 +27,13 @@ module _ (last : LastOutcome) (steps : ℕ) (cycles : MCycles) (block : List ℕ
       written ≡ sets cleared 22 (wordBytes 0) →
       written ≡ answerBytes last steps cycles block
   answered {counted} its-number its-registers by-number by-steps by-count by-registers by-clearing by-writing =
-      let N : List ℕ = wordBytes (lastNumber last) in
+      let N : List ℕ = wordBytes (lastSays last .number) in
       let S : List ℕ = wordBytes steps in
       let C : List ℕ = countBytes (cycles .0) in
-      let R : List ℕ = registerBytes (shown last) in
+      let R : List ℕ = registerBytes (shown (lastSays last .values)) in
       let Z : List ℕ = wordBytes 0 in
       let to-number = by-number ∙ ap (λ (n : ℕ). sets block 0 (wordBytes n)) its-number in
       let to-count = and-then block (N ++ S) C (and-then block N S to-number by-steps) by-count in
       let to-registers = and-then block (N ++ S ++ C) R to-count (by-registers ∙ ap (λ (r : CpuRegisters). sets counted 8 (registerBytes r)) its-registers) in
       and-then block (N ++ S ++ C ++ R ++ Z) Z (and-then block (N ++ S ++ C ++ R) Z to-registers by-clearing) by-writing
-      ∙ filling 24 (answerFields last steps cycles) block (omega arith) right-length
+      ∙ filling 24 (answerFields (lastSays last) steps cycles) block (omega arith) right-length

@@ -1,6 +1,7 @@
 // The answer block of a step or a run: 24 bytes.
 ghost use mathlib.Core.Path.{_≡_};
-ghost use Rattle.answers.specs.AnswerBlock.{shownBy, shown, answerBytes};
+ghost use Rattle.outcome.specs.Numbers.{outcomeSays, lastSays};
+ghost use Rattle.answers.specs.AnswerBlock.{shown, answerBytes};
 use fields::bytes::put_count;
 use fields::bytes::put_registers;
 use fields::bytes::put_word;
@@ -12,7 +13,7 @@ use sm83::MCycles;
 pub const ANSWER_LENGTH: usize = 24;
 
 fn shown_by(outcome: Outcome) -> CpuRegisters
-    ensures { λ r. ⌜ r ≡ shownBy outcome ⌝ }
+    ensures { λ r. ⌜ r ≡ shown (outcomeSays outcome .values) ⌝ }
 {
     match outcome {
         Outcome::Normal => CpuRegisters::zero(),
@@ -28,7 +29,7 @@ fn shown_by(outcome: Outcome) -> CpuRegisters
 
 // The registers that a Breakpoint shows, and every register 0 otherwise.
 fn shown(last: LastOutcome) -> CpuRegisters
-    ensures { λ r. ⌜ r ≡ shown last ⌝ }
+    ensures { λ r. ⌜ r ≡ shown (lastSays last .values) ⌝ }
 {
     match last {
         LastOutcome::NothingRun => CpuRegisters::zero(),

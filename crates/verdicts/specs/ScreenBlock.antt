@@ -3,25 +3,28 @@ use mathlib.Core.Bool.{Bool, true, false}
 use mathlib.Core.List.{List, _∷_}
 use Prim.Native.Nat.{ℕ}
 use Rattle.sm83.specs.declared.Addr.{Addr}
-use Rattle.verdict.specs.declared.Verdict.{Verdict}
-use Rattle.verdict.specs.declared.Verdict.the-variants.{Passes, Refused, RefusedAt}
 use Rattle.sm83.specs.Basics.{bit}
 use Rattle.sm83.specs.State.{addr}
-use Rattle.verdict.specs.Numbers.{verdictNumber}
+use Rattle.outcome.specs.Numbers.{Values, no-value, the-interrupt, the-registers, the-address, Says}
+use Rattle.verdict.specs.declared.Verdict.{Verdict}
+use Rattle.verdict.specs.Numbers.{verdictSays}
 use Rattle.fields.specs.Bytes.{wordBytes, filled}
 
-abbrev pub named : Verdict → Bool
-named Passes = false
-named (Refused r) = false
-named (RefusedAt r a) = true
+-- whether there is an address among the values, and which
+abbrev pub named : Values → Bool
+named no-value = false
+named (the-interrupt i) = false
+named (the-registers r) = false
+named (the-address a) = true
 
-abbrev pub address : Verdict → Addr
-address Passes = addr 0
-address (Refused r) = addr 0
-address (RefusedAt r a) = a
+abbrev pub address : Values → Addr
+address no-value = addr 0
+address (the-interrupt i) = addr 0
+address (the-registers r) = addr 0
+address (the-address a) = a
 
-abbrev pub verdictFields : Verdict → List ℕ
-verdictFields v = verdictNumber v ∷ bit (named v) ∷ wordBytes (address v .0)
+abbrev pub verdictFields : Says → List ℕ
+verdictFields says = says .number ∷ bit (named (says .values)) ∷ wordBytes (address (says .values) .0)
 
 abbrev pub verdictBytes : Verdict → List ℕ → List ℕ
-verdictBytes v block = filled 4 (verdictFields v) block
+verdictBytes v block = filled 4 (verdictFields (verdictSays v)) block

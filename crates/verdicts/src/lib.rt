@@ -1,5 +1,6 @@
 // The screen's answer block: 4 bytes.
 ghost use mathlib.Core.Path.{_≡_};
+ghost use Rattle.verdict.specs.Numbers.{verdictSays};
 ghost use Rattle.verdicts.specs.ScreenBlock.{named, address, verdictBytes};
 use fields::bytes::flag_byte;
 use fields::bytes::put_word;
@@ -9,7 +10,7 @@ use verdict::Verdict;
 pub const VERDICT_LENGTH: usize = 4;
 
 fn named(verdict: Verdict) -> bool
-    ensures { λ r. ⌜ r ≡ named verdict ⌝ }
+    ensures { λ r. ⌜ r ≡ named (verdictSays verdict .values) ⌝ }
 {
     match verdict {
         Verdict::Passes => false,
@@ -19,7 +20,7 @@ fn named(verdict: Verdict) -> bool
 }
 
 fn address(verdict: Verdict) -> Addr
-    ensures { λ r. ⌜ r ≡ address verdict ⌝ }
+    ensures { λ r. ⌜ r ≡ address (verdictSays verdict .values) ⌝ }
 {
     match verdict {
         Verdict::Passes => Addr(0),

@@ -1,6 +1,7 @@
 -- Shows the stores of an answer, and that a block of any other length is left alone.
 use borrow.Author.Needs.{needs}
 use mathlib.Core.Path.{sym}
+use Rattle.outcome.specs.Numbers.{lastSays}
 use Rattle.answers.specs.AnswerBlock.{answerFields}
 use Rattle.fields.proofs.Filled.{left-alone}
 use Rattle.answers.proofs.Answered.{answered}
@@ -10,7 +11,7 @@ use Rattle.answers.proofs.answer.write_answer.Tie as tie
 other-length : tie.Need-returns
 other-length c =
     let given = c .before .before .args in
-    sym (left-alone 24 (answerFields (given .last) (given .steps) (given .cycles)) (given .block .now) (c .if1 .taken))
+    sym (left-alone 24 (answerFields (lastSays (given .last)) (given .steps) (given .cycles)) (given .block .now) (c .if1 .taken))
 
 written : tie.Need-returns-2
 written c =
