@@ -72,29 +72,33 @@ fn steps_and_runs(s: &mut Sample, g: &mut Chance) -> Vec<Vec<u8>> {
     again
 }
 
-/// The addresses to which a step writes what stood there, so that no byte shows it; and how many accesses it has.
-fn unseen(state: &State, bytes: &[u8]) -> (Vec<usize>, usize) {
+/// Where a step reads and writes, in order; and the addresses to which it writes what stood there, so that no byte shows it.
+fn traced(state: &State, bytes: &[u8]) -> (Vec<(bool, usize)>, Vec<usize>) {
     let bus = run(state, bytes, 1).bus;
-    let written = bus.accesses.iter().filter_map(|access| match *access {
-        Access::Read(_) => None,
-        Access::Write(a, _) | Access::WriteAndTake(a, _) => Some(a as usize),
+    let places = bus.accesses.iter().map(|access| match *access {
+        Access::Read(a) => (false, a as usize),
+        Access::Write(a, _) | Access::WriteAndTake(a, _) => (true, a as usize),
     });
-    (written.filter(|&a| bus.bytes[a] == bytes[a]).collect(), bus.accesses.len())
+    let places: Vec<(bool, usize)> = places.collect();
+    let unseen = places.iter().filter(|&&(writes, a)| writes && bus.bytes[a] == bytes[a]).map(|&(_, a)| a).collect();
+    (places, unseen)
 }
 
-/// A step with a write that no byte shows, once more: other bytes stand there before, so that each write shows. None if there is no such write, or no such byte.
+/// A step with a write that no byte shows, once more: other bytes stand there before, so that each write shows, and all else goes where it went.
+/// None if there is no such write, or no such byte.
 fn seen(asked: &Asked) -> Option<Vec<u8>> {
     let bytes = pruned(asked, 1);
-    let (places, accesses) = unseen(&asked.state, &bytes);
-    if places.is_empty() {
+    let (places, unseen) = traced(&asked.state, &bytes);
+    let code = [0, 1].map(|i| asked.state.registers.pc.wrapping_add(i) as usize);
+    if unseen.is_empty() || unseen.iter().any(|a| code.contains(a)) {
         return None;
     }
     let other = |x: u8| -> Vec<u8> {
         let mut other = bytes.clone();
-        places.iter().for_each(|&a| other[a] ^= x);
+        unseen.iter().for_each(|&a| other[a] ^= x);
         other
     };
-    let other = (1..=255).rev().map(other).find(|other| unseen(&asked.state, other) == (vec![], accesses));
+    let other = (1..=255).rev().map(other).find(|other| traced(&asked.state, other) == (places.clone(), vec![]));
     other.map(|other| record::run(0, "", &asked.state, &other, 1, &told(&asked.state, &other, 1)))
 }
 
