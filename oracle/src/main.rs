@@ -1,7 +1,6 @@
-//! The unmodified Rust core on plain memory. Writes its answers to a fixed sample of steps: as pages of crates/vectors/specs, or as the file that crates/replay replays.
+//! The unmodified Rust core on plain memory. Writes its answers to a fixed sample of steps and runs, with those of the second screen, as the file that crates/replay replays.
 #![allow(dead_code)]
 mod bus;
-mod pages;
 mod record;
 mod sample;
 mod screens;
@@ -102,7 +101,7 @@ pub fn run(state: &State, bytes: &[u8], budget: u16) -> Answer {
             Ok(cpu::CpuState::RunningHDMA) => 3,
             Ok(cpu::CpuState::Stopped) => 4,
             Ok(cpu::CpuState::Breakpoint(shown)) => {
-                // so the page needs no place of its own for them
+                // so a record takes them from the state after
                 assert_eq!(named(&shown), cpu.get(bus.stopped, bus.hdma).registers);
                 5
             }
@@ -127,14 +126,13 @@ pub fn power_on() -> Vec<State> {
     all.iter().map(|cpu| cpu.get(false, false)).collect()
 }
 
-/// oracle pages FOLDER [SEED]: writes the pages into the folder. oracle sample FILE [SEED]: writes the sample to the file. oracle show FILE: says in words what a sample holds.
+/// oracle sample FILE [SEED]: writes the sample to the file. oracle show FILE: says in words what a sample holds.
 /// Another seed gives other states for the same opcodes.
 fn main() {
     let words: Vec<String> = std::env::args().skip(1).collect();
     let seed = words.get(2).map_or(1, |s| s.parse().unwrap_or_else(|_| usage()));
     let path = std::path::Path::new(words.get(1).unwrap_or_else(|| usage()));
     match words[0].as_str() {
-        "pages" => pages::write(path, seed),
         "sample" => stored::write(path, seed),
         "show" => show::all(path),
         _ => usage(),
@@ -142,6 +140,6 @@ fn main() {
 }
 
 fn usage() -> ! {
-    eprintln!("oracle: want 'pages FOLDER [SEED]', 'sample FILE [SEED]' or 'show FILE'");
+    eprintln!("oracle: want 'sample FILE [SEED]' or 'show FILE'");
     std::process::exit(2)
 }

@@ -1,10 +1,10 @@
-//! The stored sample: the steps and runs of `vectors` and longer runs from the unmodified Rust, windows from the second screen,
-//! refusals 1 and 2 from the document's table, and the document's rows that are not starred.
-use crate::pages::pruned;
+//! The stored sample: steps and runs from the unmodified Rust, windows from the second screen, refusals 1 and 2 from the document's table, and the
+//! document's rows that are not starred.
+use crate::bus::Access;
 use crate::record::{self, Told};
 use crate::sample::{self, Asked, Chance};
 use crate::screens::{routine, screen};
-use crate::{Registers, State};
+use crate::{power_on, run, tables, Registers, State};
 use std::path::Path;
 
 /// The records, one after the other, behind their number.
@@ -22,9 +22,15 @@ impl Sample {
 
 /// What the Rust answers to a run, as a record tells it. "nothing run" is 6.
 fn told(state: &State, bytes: &[u8], budget: u16) -> Told {
-    let answer = crate::run(state, bytes, budget);
+    let answer = run(state, bytes, budget);
     let outcome = if answer.outcome == 255 { 6 } else { answer.outcome };
     Told { state: record::block(&answer.state), outcome: outcome as u16, steps: answer.steps, cycles: answer.bus.accesses.len() as u32, bytes: answer.bus.bytes }
+}
+
+/// Only the bytes that are looked at, and the two that interrupts hang on, are kept; all others become 0.
+fn pruned(asked: &Asked, budget: u16) -> Vec<u8> {
+    let looked = run(&asked.state, &asked.bytes, budget).bus.looked;
+    (0..=0xffffu16).map(|a| if looked.contains(&a) || a == 0xff0f || a == 0xffff { asked.bytes[a as usize] } else { 0 }).collect()
 }
 
 fn by_rust(kind: u8, name: &str, asked: &Asked, budget: u16) -> Vec<u8> {
@@ -32,15 +38,20 @@ fn by_rust(kind: u8, name: &str, asked: &Asked, budget: u16) -> Vec<u8> {
     record::run(kind, name, &asked.state, &bytes, budget, &told(&asked.state, &bytes, budget))
 }
 
-/// The same steps and runs as the pages of `vectors` hold, then runs on whatever bytes there are.
-fn steps_and_runs(s: &mut Sample, g: &mut Chance) {
+/// Each opcode in four ways, the cases that the document singles out, short runs, then runs on whatever bytes there are. Answers the records of `seen`.
+fn steps_and_runs(s: &mut Sample, g: &mut Chance) -> Vec<Vec<u8>> {
+    let mut again = Vec::new();
+    let mut step = |s: &mut Sample, asked: &Asked| {
+        s.put(by_rust(0, "", asked, 1));
+        again.extend(seen(asked));
+    };
     for op in 0..512 {
         for way in 0..4 {
-            s.put(by_rust(0, "", &sample::opcode(g, op, way), 1));
+            step(s, &sample::opcode(g, op, way));
         }
     }
     for asked in sample::before_the_fetch(g).iter().chain(&sample::after_the_fetch(g)) {
-        s.put(by_rust(0, "", asked, 1));
+        step(s, asked);
     }
     for (asked, budget) in sample::runs(g) {
         s.put(by_rust(1, "", &asked, budget));
@@ -51,12 +62,53 @@ fn steps_and_runs(s: &mut Sample, g: &mut Chance) {
         asked.state.ime = k % 4 == 0;
         let budget = if k % 8 == 0 { 65535 } else { 2 + g.below(300) as u16 };
         // a run that wanders through all of memory would make a record of many thousand bytes
-        let bus = crate::run(&asked.state, &asked.bytes, budget).bus;
+        let bus = run(&asked.state, &asked.bytes, budget).bus;
         let written = (0..65536).filter(|&a| bus.bytes[a] != asked.bytes[a]).count();
         if bus.looked.len() + written < 600 {
             s.put(by_rust(1, "", &asked, budget));
             k += 1;
         }
+    }
+    again
+}
+
+/// Where a step reads and writes, in order; and the addresses to which it writes what stood there, so that no byte shows it.
+fn traced(state: &State, bytes: &[u8]) -> (Vec<(bool, usize)>, Vec<usize>) {
+    let bus = run(state, bytes, 1).bus;
+    let places = bus.accesses.iter().map(|access| match *access {
+        Access::Read(a) => (false, a as usize),
+        Access::Write(a, _) | Access::WriteAndTake(a, _) => (true, a as usize),
+    });
+    let places: Vec<(bool, usize)> = places.collect();
+    let unseen = places.iter().filter(|&&(writes, a)| writes && bus.bytes[a] == bytes[a]).map(|&(_, a)| a).collect();
+    (places, unseen)
+}
+
+/// A step with a write that no byte shows, once more: other bytes stand there before, so that each write shows, and all else goes where it went.
+/// None if there is no such write, or no such byte.
+fn seen(asked: &Asked) -> Option<Vec<u8>> {
+    let bytes = pruned(asked, 1);
+    let (places, unseen) = traced(&asked.state, &bytes);
+    let code = [0, 1].map(|i| asked.state.registers.pc.wrapping_add(i) as usize);
+    if unseen.is_empty() || unseen.iter().any(|a| code.contains(a)) {
+        return None;
+    }
+    let other = |x: u8| -> Vec<u8> {
+        let mut other = bytes.clone();
+        unseen.iter().for_each(|&a| other[a] ^= x);
+        other
+    };
+    let other = (1..=255).rev().map(other).find(|other| traced(&asked.state, other) == (places.clone(), vec![]));
+    other.map(|other| record::run(0, "", &asked.state, &other, 1, &told(&asked.state, &other, 1)))
+}
+
+/// The arithmetic by itself.
+fn arithmetic(s: &mut Sample) {
+    for (asked, budget) in tables::lists() {
+        s.put(by_rust(1, "", &asked, budget));
+    }
+    for asked in tables::words() {
+        s.put(by_rust(0, "", &asked, 1));
     }
 }
 
@@ -163,14 +215,49 @@ fn row(s: &mut Sample, name: &str, bytes: &[u8], window: usize, printed: (u8, Op
     s.put(record::window(name, bytes, 0, window as u16 - 1, &marks, &printed));
 }
 
+/// The Rust's states at power-on are those of the document's table. From each a run that pushes its registers, so that bytes show them.
+fn from_power_on(s: &mut Sample) {
+    let mut bytes = vec![0u8; 65536];
+    // PUSH AF; PUSH BC; PUSH DE; PUSH HL; LD (C000),SP; JR to itself
+    let code = [0xf5, 0xc5, 0xd5, 0xe5, 0x08, 0x00, 0xc0, 0x18, 0xfe];
+    bytes[..9].copy_from_slice(&code);
+    bytes[0x100..0x109].copy_from_slice(&code);
+    let printed = [("no boot skip, DMG", [0; 6], true), ("no boot skip, CGB", [0; 6], false), ("DMG", [0x01b0, 0x0013, 0x00d8, 0x014d, 0xfffe, 0x0100], true), ("CGB, CGB cartridge", [0x1180, 0x0000, 0xff56, 0x000d, 0xfffe, 0x0100], false), ("CGB, DMG cartridge", [0x1180, 0x0000, 0x0008, 0x007c, 0xfffe, 0x0100], false)];
+    for (state, (name, words, dmg)) in power_on().iter().zip(printed) {
+        let [[a, f], [b, c], [d, e], [h, l], _, _] = words.map(u16::to_be_bytes);
+        let registers = Registers { a, f, b, c, d, e, h, l, sp: words[4], pc: words[5] };
+        assert_eq!(*state, State { registers, dmg, ..State::default() }, "the document's state at power-on: {name}");
+        let name = format!("power-on, {name}");
+        s.put(record::run(1, &name, state, &bytes, 9, &told(state, &bytes, 9)));
+    }
+}
+
+/// EI directly before HALT, with an interrupt pending and RETI as its handler: docs/DIFFERENCES.md.
+fn halted_after_ei(s: &mut Sample) {
+    let mut bytes = vec![0u8; 65536];
+    bytes[0x0100..0x0102].copy_from_slice(&[0xfb, 0x76]);
+    (bytes[0x0040], bytes[0xff0f], bytes[0xffff]) = (0xd9, 0x01, 0x01);
+    let state = State { dmg: true, ..still(0x0100, 0xd000) };
+    for budget in 1..=4 {
+        let answer = told(&state, &bytes, budget);
+        let pc = u16::from_le_bytes([answer.state[10], answer.state[11]]);
+        let name = format!("EI, HALT with an interrupt pending, steps {budget}: PC {pc:04X}");
+        s.put(record::run(1, &name, &state, &bytes, budget, &answer));
+    }
+}
+
 pub fn write(path: &Path, seed: u64) {
     let mut g = Chance::new(seed);
     let mut s = Sample { count: 0, bytes: Vec::new() };
     rows(&mut s);
-    steps_and_runs(&mut s, &mut g);
+    from_power_on(&mut s);
+    halted_after_ei(&mut s);
+    let again = steps_and_runs(&mut s, &mut g);
     refusals(&mut s, &mut g);
     windows(&mut s, &mut g);
     limits(&mut s, &mut g);
+    again.into_iter().for_each(|record| s.put(record));
+    arithmetic(&mut s);
     let file = [&s.count.to_le_bytes()[..], &s.bytes].concat();
     // whole or not at all
     let part = path.with_extension("part");

@@ -1,4 +1,4 @@
-// What a replay says as it goes: of a row of the document, of a record that differs, and of a sample that is not whole.
+// What a replay says as it goes: of a record with a name, of a record that differs, and of a sample that is not whole.
 use libc::STDOUT_FILENO;
 use records::layout::wide;
 
@@ -15,7 +15,7 @@ fn say_result(same: bool) {
     }
 }
 
-// A record with a name is a row of the document; it stands at the end.
+// A record with a name is a row of the document, or of docs/DIFFERENCES.md; the name stands at its end.
 pub fn say_row(item: &[u8], same: bool) {
     if item.len() < 4 {
         return;
