@@ -5,7 +5,7 @@ use Prim.Native.Nat.{ℕ}
 use Rattle.sm83.specs.declared.MCycles.{MCycles}
 use Rattle.sm83.specs.declared.CpuRegisters.{CpuRegisters}
 use Rattle.outcome.specs.declared.LastOutcome.{LastOutcome}
-use Rattle.outcome.specs.Numbers.{Values, no-value, the-interrupt, the-registers, the-address, Says, lastSays}
+use Rattle.outcome.specs.Numbers.{Values, no-value, the-interrupt, the-registers, the-address, Said, lastSays}
 use Rattle.sm83.specs.PowerOn.{registers-zero}
 use Rattle.fields.specs.Bytes.{wordBytes, countBytes, filled}
 use Rattle.fields.specs.Registers.{registerBytes}
@@ -17,7 +17,7 @@ shown (the-interrupt i) = registers-zero
 shown (the-registers r) = r
 shown (the-address a) = registers-zero
 
-abbrev pub answerFields : Says → ℕ → MCycles → List ℕ
+abbrev pub answerFields : Said → ℕ → MCycles → List ℕ
 answerFields says steps cycles =
     wordBytes (says .number) ++ wordBytes steps ++ countBytes (cycles .0) ++ registerBytes (shown (says .values)) ++ 0 ∷ 0 ∷ 0 ∷ 0 ∷ []
 

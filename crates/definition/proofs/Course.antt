@@ -8,7 +8,7 @@ use Rattle.outcome.specs.declared.Outcome.{Outcome}
 use Rattle.outcome.specs.declared.Outcome.the-variants.{Halting, RunningHDMA, Stopped}
 use Rattle.sm83.specs.Basics.{if_then_else_}
 use Rattle.definition.specs.Bus.{Access, Idle, Bus, Ran, runOn}
-use Rattle.outcome.specs.Numbers.{isPending}
+use Rattle.outcome.specs.Interrupts.{isPending}
 use Rattle.sm83.specs.State.{pc, setHalt}
 use Rattle.definition.specs.Execution.{Does, _>>=_, _>>_, give, wait, asked}
 use Rattle.definition.specs.Step.{isAsleep, dispatch, instruction, awake, woken, step, Ended, ended, stepTree}

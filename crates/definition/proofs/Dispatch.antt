@@ -14,7 +14,7 @@ use Rattle.definition.specs.Bus.{Access, Write, Idle, WriteAndTake, Stac
 use Rattle.outcome.specs.declared.interrupt.InterruptType.{InterruptType}
 use Rattle.outcome.specs.declared.interrupt.NextInterrupt.{NextInterrupt}
 use Rattle.outcome.specs.declared.interrupt.NextInterrupt.the-variants.{NonePending, Pending}
-use Rattle.outcome.specs.Numbers.{isPending}
+use Rattle.outcome.specs.Interrupts.{isPending}
 use Rattle.sm83.specs.State.{pc, sp, flags, setPC, setSP, setIme, setHalt}
 use Rattle.definition.specs.Step.{isAsleep, vector, entryOf, dispatchedAs, dispatch, Ended, ended, Admission, admitted, stepOn}
 use Rattle.definition.proofs.Compose.{after}

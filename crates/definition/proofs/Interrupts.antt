@@ -16,7 +16,7 @@ use Rattle.outcome.specs.declared.interrupt.InterruptType.{InterruptType}
 use Rattle.outcome.specs.declared.interrupt.InterruptType.the-variants.{Vblank, LcdStat, Timer, Serial, Joypad}
 use Rattle.outcome.specs.declared.interrupt.NextInterrupt.{NextInterrupt}
 use Rattle.outcome.specs.declared.interrupt.NextInterrupt.the-variants.{NonePending, Pending}
-use Rattle.outcome.specs.Numbers.{interruptNumber}
+use Rattle.outcome.specs.Interrupts.{interruptNumber}
 use Rattle.outcome.proofs.Told.{one-of-five}
 use Rattle.opcodes.proofs.OneBit.{cleared-itself, cleared-others, bit-and}
 use Rattle.definition.specs.Bus.{lowest, byteAt, pending, without, taken}

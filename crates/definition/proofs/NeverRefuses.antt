@@ -10,7 +10,7 @@ use Rattle.sm83.specs.declared.HaltMode.the-variants.{HaltRunInterrupt, HaltNoR
 use Rattle.sm83.specs.Basics.{if_then_else_, word, next, offset}
 use Rattle.definition.specs.Bus.{Ask, answer, read, write, idle, peek, writeAndTake, Stack, Bus, runOn}
 use Rattle.outcome.specs.declared.interrupt.NextInterrupt.{NextInterrupt}
-use Rattle.outcome.specs.Numbers.{isPending}
+use Rattle.outcome.specs.Interrupts.{isPending}
 use Rattle.opcodes.specs.Arithmetic.{holds}
 use Rattle.sm83.specs.State.{pc, flags, pairHL, setHalt}
 use Rattle.opcodes.specs.Instruction.{Jump, JP-n16, JP-HL, JR-e8, CALL-n16, RET, RETI, JP-cc-n16, JR-cc-e8, CALL-cc-n16, RET-cc, RST-vec}

@@ -8,7 +8,7 @@ use Rattle.sm83.specs.declared.Cpu.{Cpu}
 use Rattle.sm83.specs.declared.HaltMode.the-variants.{NotHalting}
 use Rattle.sm83.specs.Basics.{if_then_else_}
 use Rattle.definition.specs.Bus.{Access, Idle, pending, plain}
-use Rattle.outcome.specs.Numbers.{isPending}
+use Rattle.outcome.specs.Interrupts.{isPending}
 use Rattle.sm83.specs.State.{setHalt}
 use Rattle.definition.specs.Step.{isAsleep}
 use Rattle.definition.proofs.Course.{Woke, was-awake, woke-dmg, woke-cgb, Passed, ime-clear, none-pending}

@@ -16,7 +16,7 @@ use Rattle.outcome.specs.declared.Refusal.the-variants.{MemoryLength, LowBitsOf
 use Rattle.outcome.specs.declared.Outcome.the-variants.{Refused}
 use Rattle.sm83.specs.Basics.{if_then_else_}
 use Rattle.definition.specs.Bus.{Access, Read, Fetch, Bus, Ran, logged, runOn, byteAt, pending, plain}
-use Rattle.outcome.specs.Numbers.{isPending}
+use Rattle.outcome.specs.Interrupts.{isPending}
 use Rattle.sm83.specs.State.{pc, flags, setPC, setIme, setLatch}
 use Rattle.opcodes.specs.Instruction.{Instruction, ILLEGAL, decode}
 use Rattle.definition.specs.Execution.{execute}

@@ -9,7 +9,7 @@ use Rattle.sm83.specs.declared.HaltMode.the-variants.{NotHalting}
 use Rattle.outcome.specs.declared.Outcome.{Outcome}
 use Rattle.sm83.specs.Basics.{if_then_else_}
 use Rattle.definition.specs.Bus.{Idle, Bus, Ran, runOn, logged, mcycles}
-use Rattle.outcome.specs.Numbers.{isPending}
+use Rattle.outcome.specs.Interrupts.{isPending}
 use Rattle.sm83.specs.State.{flags, setHalt}
 use Rattle.opcodes.specs.Instruction.{Instruction, decode}
 use Rattle.definition.specs.Execution.{Does, _>>_, wait}

@@ -8,7 +8,7 @@ use Rattle.sm83.specs.declared.HaltMode.the-variants.{NotHalting}
 use Rattle.outcome.specs.declared.Outcome.{Outcome}
 use Rattle.sm83.specs.Basics.{if_then_else_, next}
 use Rattle.definition.specs.Bus.{Fetch, Read, byteAt, plain, Ask, Bus, Ran, runOn, logged}
-use Rattle.outcome.specs.Numbers.{isPending}
+use Rattle.outcome.specs.Interrupts.{isPending}
 use Rattle.sm83.specs.State.{pc, sp, flags, setPC, setIme, setLatch, setHalt}
 use Rattle.opcodes.specs.Instruction.{Instruction, decode, operands}
 use Rattle.definition.specs.Execution.{Does, asked, _>>=_}

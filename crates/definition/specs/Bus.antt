@@ -9,7 +9,7 @@ use Rattle.sm83.specs.Basics.{if_then_else_, bitAt, cleared}
 use Rattle.outcome.specs.declared.interrupt.InterruptType.the-variants.{Vblank, LcdStat, Timer, Serial, Joypad}
 use Rattle.outcome.specs.declared.interrupt.NextInterrupt.{NextInterrupt}
 use Rattle.outcome.specs.declared.interrupt.NextInterrupt.the-variants.{NonePending, Pending}
-use Rattle.outcome.specs.Numbers.{interruptNumber}
+use Rattle.outcome.specs.Interrupts.{interruptNumber}
 
 -- What an access is for. No promise is made about it yet (02, request 9).
 pub data Kind : Type 0 where

@@ -11,7 +11,7 @@ use Rattle.outcome.specs.declared.Outcome.the-variants.{Normal, InfiniteLoop, B
 use Rattle.sm83.specs.Basics.{if_then_else_, cleared, raised, word, highByte, lowByte, next, back, offset}
 use Rattle.definition.specs.Bus.{Kind, Fetch, Operand, Stack, Ask, read, write, idle, peek}
 use Rattle.outcome.specs.declared.interrupt.NextInterrupt.{NextInterrupt}
-use Rattle.outcome.specs.Numbers.{isPending}
+use Rattle.outcome.specs.Interrupts.{isPending}
 use Rattle.sm83.specs.State.{pairAF, pairBC, pairDE, pairHL, writeA, writeF, writeSP, writePC, putBC, putDE, putHL, writeBC, writeDE, writeHL, writeAF, onRegisters, setPC, setIme, setLatch, setHalt, setStopped}
 use Rattle.opcodes.specs.Arithmetic.{holds, Result, aluOp, accOp, shiftOp, increment, decrement, bitTest, wordSumFlags, offsetFlags}
 use Rattle.opcodes.specs.Instruction.{Reg8, rB, rC, rD, rE, rH, rL, [HL], rA, Reg16, rBC, rDE, rHL, rSP, Stacked, pBC, pDE, pHL, pAF, Pointer, [BC], [DE], [HL+], [HL-], Cond, Alu, Acc, Shift}

@@ -10,7 +10,7 @@ use Rattle.sm83.specs.declared.HaltMode.the-variants.{NotHalting, HaltRunInterr
 use Rattle.outcome.specs.declared.interrupt.InterruptType.{InterruptType}
 use Rattle.outcome.specs.declared.interrupt.NextInterrupt.{NextInterrupt}
 use Rattle.outcome.specs.declared.interrupt.NextInterrupt.the-variants.{NonePending, Pending}
-use Rattle.outcome.specs.Numbers.{interruptNumber, isPending}
+use Rattle.outcome.specs.Interrupts.{interruptNumber, isPending}
 use Rattle.outcome.specs.declared.Refusal.{Refusal}
 use Rattle.outcome.specs.declared.Refusal.the-variants.{MemoryLength, LowBitsOfF}
 use Rattle.outcome.specs.declared.Outcome.{Outcome}

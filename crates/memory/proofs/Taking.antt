@@ -8,7 +8,7 @@ use Rattle.sm83.specs.Basics.{cleared}
 use Rattle.outcome.specs.declared.interrupt.InterruptType.{InterruptType}
 use Rattle.outcome.specs.declared.interrupt.NextInterrupt.{NextInterrupt}
 use Rattle.outcome.specs.declared.interrupt.NextInterrupt.the-variants.{NonePending, Pending}
-use Rattle.outcome.specs.Numbers.{interruptNumber}
+use Rattle.outcome.specs.Interrupts.{interruptNumber}
 use Rattle.outcome.proofs.Told.{one-of-five}
 use Rattle.definition.specs.Bus.{byteAt, pending, without, taken}
 

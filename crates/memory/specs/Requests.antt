@@ -6,7 +6,7 @@ use lib.ListN.{set, length}
 use Rattle.sm83.specs.Basics.{cleared}
 use Rattle.outcome.specs.declared.interrupt.InterruptType.{InterruptType}
 use Rattle.outcome.specs.declared.interrupt.NextInterrupt.{NextInterrupt}
-use Rattle.outcome.specs.Numbers.{interruptNumber}
+use Rattle.outcome.specs.Interrupts.{interruptNumber}
 use Rattle.definition.specs.Bus.{byteAt, pending, taken}
 
 -- an interrupt seen

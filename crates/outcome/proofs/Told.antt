@@ -11,7 +11,8 @@ use Rattle.outcome.specs.declared.Outcome.{Outcome}
 use Rattle.outcome.specs.declared.Outcome.the-variants.{Normal, InfiniteLoop, Halting, RunningHDMA, Stopped, RunningInterrupt, Breakpoint, Refused}
 use Rattle.outcome.specs.declared.LastOutcome.{LastOutcome}
 use Rattle.outcome.specs.declared.LastOutcome.the-variants.{NothingRun, Last}
-use Rattle.outcome.specs.Numbers.{interruptNumber, Values, no-value, the-interrupt, the-registers, the-address, Says, says, outcomeSays, lastSays}
+use Rattle.outcome.specs.Interrupts.{interruptNumber}
+use Rattle.outcome.specs.Numbers.{Values, no-value, the-interrupt, the-registers, the-address, Said, says, outcomeSays, lastSays}
 
 -- "Interrupts 0 to 4": the five vectors have a place for each
 pub one-of-five : (i : InterruptType) → interruptNumber i < 5
@@ -49,7 +50,7 @@ read-off (Last (Refused IllegalOpcode)) = refl
 
 -- of a run
 pub last-told : (l k : LastOutcome) → lastSays l ≡ lastSays k → l ≡ k
-last-told l k e = sym (read-off l) ∙ ap (λ (s : Says). byValues (s .number) (s .values)) e ∙ read-off k
+last-told l k e = sym (read-off l) ∙ ap (λ (s : Said). byValues (s .number) (s .values)) e ∙ read-off k
 
 -- and of a step
 pub outcome-told : (o p : Outcome) → outcomeSays o ≡ outcomeSays p → o ≡ p

@@ -1,6 +1,6 @@
 // Interrupts: "0 to 4", by the Rust's names.
 ghost use mathlib.Core.Path.{_≡_};
-ghost use Rattle.outcome.specs.Numbers.{interruptNumber, isPending};
+ghost use Rattle.outcome.specs.Interrupts.{interruptNumber, isPending};
 
 pub enum InterruptType {
     Vblank,

@@ -9,7 +9,7 @@ use Rattle.outcome.specs.declared.Refusal.the-variants.{IllegalOpcode}
 use Rattle.outcome.specs.declared.Outcome.the-variants.{Normal, InfiniteLoop, Halting, RunningHDMA, Stopped, RunningInterrupt, Breakpoint, Refused}
 use Rattle.sm83.specs.Basics.{if_then_else_, bitAt, highByte, lowByte, next, back, offset, cleared, raised}
 use Rattle.definition.specs.Bus.{Fetch, Operand}
-use Rattle.outcome.specs.Numbers.{isPending}
+use Rattle.outcome.specs.Interrupts.{isPending}
 use Rattle.sm83.specs.State.{setIme, setLatch, setHalt, setStopped}
 use Rattle.sm83.specs.Flags.{flagZ, flagC}
 use Rattle.opcodes.specs.Arithmetic.{isZero, holds, aluOp, accOp, shiftOp, increment, decrement, bitTest, wordSumFlags, offsetFlags}

@@ -11,7 +11,7 @@ use Rattle.definition.specs.Bus.{Fetch, Stack}
 use Rattle.outcome.specs.declared.interrupt.InterruptType.the-variants.{Vblank, LcdStat, Timer, Serial, Joypad}
 use Rattle.outcome.specs.declared.interrupt.NextInterrupt.{NextInterrupt}
 use Rattle.outcome.specs.declared.interrupt.NextInterrupt.the-variants.{NonePending, Pending}
-use Rattle.outcome.specs.Numbers.{isPending}
+use Rattle.outcome.specs.Interrupts.{isPending}
 use Rattle.sm83.specs.State.{pc, sp, setPC, setSP, setIme, setLatch, setHalt}
 use Rattle.opcodes.specs.Instruction.{decode}
 use Rattle.definition.specs.Step.{isAsleep, isBug, entryOf, dispatchedAs, storeAndTake, dispatch, enabled, fetched, instruction, awake, woken, step}

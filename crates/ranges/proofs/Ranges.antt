@@ -13,7 +13,7 @@ use Rattle.sm83.specs.Basics.{if_then_else_, cleared}
 use Rattle.definition.specs.Bus.{Kind, Stack, Ask, answer, read, write, idle, peek, writeAndTake, Bus, runOn, byteAt, pending, without, taken, plain}
 use Rattle.outcome.specs.declared.interrupt.NextInterrupt.{NextInterrupt}
 use Rattle.outcome.specs.declared.interrupt.NextInterrupt.the-variants.{NonePending, Pending}
-use Rattle.outcome.specs.Numbers.{interruptNumber}
+use Rattle.outcome.specs.Interrupts.{interruptNumber}
 use Rattle.definition.specs.Step.{Ended, ended, stepTree, Admission, accepted, refusedAs, admission, admitted, stepOn}
 use Rattle.definition.specs.Run.{runFor}
 use Rattle.ranges.proofs.Ranged.{Ranged, cleared-byte}

@@ -9,7 +9,7 @@ use lib.ListN.{length}
 use borrow.Author.Tests.{eq-eqb, ne-eqb, lt-ltb, le-ltb}
 use Rattle.definition.specs.Bus.{byteAt, pending}
 use Rattle.outcome.specs.declared.interrupt.NextInterrupt.{NextInterrupt}
-use Rattle.outcome.specs.Numbers.{isPending}
+use Rattle.outcome.specs.Interrupts.{isPending}
 use Rattle.fields.specs.Bytes.{wordAt}
 use Rattle.records.specs.Bytes.{part}
 use Rattle.records.specs.Record.{kindOf, memoryLength, listed, memoryFrom}

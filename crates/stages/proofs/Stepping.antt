@@ -10,7 +10,7 @@ use Rattle.outcome.specs.declared.Outcome.the-variants.{Halting, Stopped, Runni
 use Rattle.sm83.specs.Basics.{if_then_else_, back, highByte, lowByte}
 use Rattle.definition.specs.Bus.{Stack, Ask, write, idle}
 use Rattle.outcome.specs.declared.interrupt.NextInterrupt.{NextInterrupt}
-use Rattle.outcome.specs.Numbers.{isPending}
+use Rattle.outcome.specs.Interrupts.{isPending}
 use Rattle.sm83.specs.State.{pc, sp, setPC, setSP, setIme, setHalt}
 use Rattle.definition.specs.Execution.{Does, _>>=_, _>>_, give, wait, asked}
 use Rattle.definition.specs.Step.{Ended, isAsleep, entryOf, dispatchedAs, dispatch, instruction, awake, woken, rested, step}

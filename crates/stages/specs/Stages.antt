@@ -10,7 +10,7 @@ use Rattle.outcome.specs.declared.Outcome.{Outcome}
 use Rattle.outcome.specs.declared.Outcome.the-variants.{Halting}
 use Rattle.sm83.specs.Basics.{if_then_else_}
 use Rattle.definition.specs.Bus.{Ask, peek}
-use Rattle.outcome.specs.Numbers.{isPending}
+use Rattle.outcome.specs.Interrupts.{isPending}
 use Rattle.sm83.specs.State.{setPC, setHalt}
 use Rattle.definition.specs.Execution.{Does, give}
 use Rattle.definition.specs.Step.{Ended, isBug, instruction, awake, rested}

@@ -1,7 +1,7 @@
 -- What each verdict of the screen says: its number in the document, and the address that comes with it. Every promise uses these.
 use Prim.Native.Nat.{ℕ}
 use Rattle.outcome.specs.declared.Refusal.the-variants as step
-use Rattle.outcome.specs.Numbers.{Says, says, no-value, the-address}
+use Rattle.outcome.specs.Numbers.{Said, says, no-value, the-address}
 use Rattle.outcome.specs.Numbers as step-numbers
 use Rattle.verdict.specs.declared.ScreenRefusal.{ScreenRefusal}
 use Rattle.verdict.specs.declared.ScreenRefusal.the-variants.{MemoryLength, WindowReversed, WindowTooLong, MarksLength, ForbiddenOpcode, PastTheEnd, FallsThrough, JumpUnmarked}
@@ -20,7 +20,7 @@ numberOf FallsThrough = 9
 numberOf JumpUnmarked = 10
 
 -- 0 if it passes, else the refusal's number; with its address, if the refusal names one
-abbrev pub verdictSays : Verdict → Says
+abbrev pub verdictSays : Verdict → Said
 verdictSays Passes = says 0 no-value
 verdictSays (Refused r) = says (numberOf r) no-value
 verdictSays (RefusedAt r a) = says (numberOf r) (the-address a)

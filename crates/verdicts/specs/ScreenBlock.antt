@@ -5,7 +5,7 @@ use Prim.Native.Nat.{ℕ}
 use Rattle.sm83.specs.declared.Addr.{Addr}
 use Rattle.sm83.specs.Basics.{bit}
 use Rattle.sm83.specs.State.{addr}
-use Rattle.outcome.specs.Numbers.{Values, no-value, the-interrupt, the-registers, the-address, Says}
+use Rattle.outcome.specs.Numbers.{Values, no-value, the-interrupt, the-registers, the-address, Said}
 use Rattle.verdict.specs.declared.Verdict.{Verdict}
 use Rattle.verdict.specs.Numbers.{verdictSays}
 use Rattle.fields.specs.Bytes.{wordBytes, filled}
@@ -23,7 +23,7 @@ address (the-interrupt i) = addr 0
 address (the-registers r) = addr 0
 address (the-address a) = a
 
-abbrev pub verdictFields : Says → List ℕ
+abbrev pub verdictFields : Said → List ℕ
 verdictFields says = says .number ∷ bit (named (says .values)) ∷ wordBytes (address (says .values) .0)
 
 abbrev pub verdictBytes : Verdict → List ℕ → List ℕ

@@ -1,6 +1,6 @@
 -- Shows whether point 4 applies.
 use borrow.Author.Needs.{needs}
-use Rattle.outcome.specs.Numbers.{isPending}
+use Rattle.outcome.specs.Interrupts.{isPending}
 use Rattle.stages.proofs.dispatch.is_called.Statement.{statement}
 use Rattle.stages.proofs.dispatch.is_called.Tie as tie
 
