@@ -3,24 +3,34 @@
 use mathlib.Core.Path.{_≡_, refl, subst}
 use mathlib.Core.Bool.{not}
 use mathlib.Core.Logic.{_⊎_, inl, inr, _↔_}
-use mathlib.Core.List.{List, [], _∷_}
+use mathlib.Core.List.{List}
 use Prim.Native.Nat.{ℕ, zero, suc, _+_, _≤_, _<_}
 use native.Mathlib.Nat.{eq-or-lt-of-le}
 use native.Mathlib.Omega.{arith}
 use lib.Dec.{T, T-not}
 use Rattle.sm83.specs.declared.Addr.{Addr}
 use Rattle.verdict.specs.declared.ScreenRefusal.{ScreenRefusal}
-use Rattle.verdict.specs.declared.ScreenRefusal.the-variants.{FallsThrough, JumpUnmarked}
 use Rattle.verdict.specs.declared.Verdict.{Verdict}
 use Rattle.verdict.specs.declared.Verdict.the-variants.{Passes, Refused, RefusedAt}
-use Rattle.routine.specs.Flow.{flowAt, past, isForbidden, endsRoutine}
+use Rattle.routine.specs.Flow.{flowAt, past, endsRoutine}
 use Rattle.routine.specs.Rules.{Start, at-first, after, Rules}
-use Rattle.routine.specs.Screen.{marksOf, isMarked, walk, endsWell, landsWell, scan, verdict}
+use Rattle.routine.specs.Screen.{marksOf, isMarked, tests, findings, verdict}
 use Rattle.routine.proofs.Starts.{start-high}
 use Rattle.routine.proofs.Marks.{marked-start}
-use Rattle.routine.proofs.Findings.{Sound, Stops, JumpsToStarts, Every, Finding, forbidden, runs-past, falls-through, strays, Shows, and-then}
+use Rattle.routine.proofs.Findings.{Asks, Every, Before, Finding, Shows}
+use Rattle.routine.proofs.Rounds.{first-shows, Broken, breaks}
 use Rattle.routine.proofs.Walked.{walk-shows}
-use Rattle.routine.proofs.Scanned.{falls-shows, strays-shows}
+use Rattle.routine.proofs.Scanned.{tests-tell, scans-show}
+
+module _ {m : List ℕ} {first end : ℕ} where
+  -- the rules are what the rounds ask of every start
+  kept : Before m first end 3 → Rules m first end
+  kept asked = record { allowed = λ a s. asked 0 (omega arith) a s .0; fits = λ a s. asked 0 (omega arith) a s .1; ends = asked 1 (omega arith); lands = λ a t s jump. asked 2 (omega arith) a s t jump }
+
+  asked-of-all : Rules m first end → (k : ℕ) → Every m first end (Asks m first end k)
+  asked-of-all rules zero = λ a s. (rules .allowed a s, rules .fits a s)
+  asked-of-all rules (suc zero) = rules .ends
+  asked-of-all rules (suc (suc k)) = λ a s t jump. rules .lands a t s jump
 
 -- what the verdict on a window shows: the rules if it passes, the finding if it names an address
 pub verdict-shows : (m : List ℕ) (first n : ℕ) → Shows m first (first + n) (Rules m first (first + n)) (verdict m first n)
@@ -28,12 +38,14 @@ unfolding verdict
 verdict-shows m first n =
     let end = first + n in
     let marked = isMarked (marksOf m first n) first in
-    let falls = scan FallsThrough marked (endsWell m end) first n in
-    let astray = scan JumpUnmarked marked (landsWell m marked) first n in
-    and-then m first end (Every m first end (Sound m first end)) (Rules m first end) (walk m first 0 first n) (falls ∷ astray ∷ []) (walk-shows m first n) λ sound.
-    and-then m first end (Every m first end (Stops m first end)) (Rules m first end) falls (astray ∷ []) (falls-shows m first end marked (marked-start m first n) n refl sound) λ stops.
-    and-then m first end (Every m first end (JumpsToStarts m first end)) (Rules m first end) astray [] (strays-shows m first end marked (marked-start m first n) n refl sound stops) λ lands.
-    record { allowed = λ a s. sound a s .0; fits = λ a s. sound a s .1; ends = stops; lands = λ a t s j. lands a s t j }
+    let is-start = marked-start m first n in
+    in-words (verdict m first n)
+    (first-shows m first end 0 (findings m marked first n) (λ before. walk-shows m first n, scans-show m first n marked is-start 1 tests (tests-tell m first end marked is-start)) (λ j low. absurd (omega arith)))
+  where
+    in-words : (v : Verdict) → Shows m first (first + n) (Before m first (first + n) 3) v → Shows m first (first + n) (Rules m first (first + n)) v
+    in-words Passes asked = kept asked
+    in-words (Refused r) none = none
+    in-words (RefusedAt r a) finding = finding
 
 pub found : (m : List ℕ) (first n : ℕ) (r : ScreenRefusal) (a : Addr) → verdict m first n ≡ RefusedAt r a → Finding m first (first + n) r (a .0)
 found m first n r a e = subst (Shows m first (first + n) (Rules m first (first + n))) e (verdict-shows m first n)
@@ -41,10 +53,7 @@ found m first n r a e = subst (Shows m first (first + n) (Rules m first (first +
 module _ {m : List ℕ} {first end : ℕ} (rules : Rules m first end) where
   -- where the rules are kept there is nothing to find
   pub no-finding : {r : ScreenRefusal} {a : ℕ} → Finding m first end r a → ⊥
-  no-finding (forbidden {a} s below bad) = T-not (isForbidden (flowAt m a)) (rules .allowed a s) bad
-  no-finding (runs-past {a} s below ok far) = omega (arith, rules .fits a s)
-  no-finding (falls-through {a} s sound below last bad) = T-not (endsRoutine (flowAt m a)) bad (rules .ends a s last)
-  no-finding (strays {a} {t} s sound stops below jump none) = none (rules .lands a t s jump)
+  no-finding {r} {a} f = let b : Broken m first end r a = breaks m first end f in b .wrong (asked-of-all rules (b .round) a (b .lowest .start))
 
   -- what does not end the routine is followed by a start
   pub onward : {a : ℕ} → Start m first end a → T (not (endsRoutine (flowAt m a))) → Start m first end (past m a)

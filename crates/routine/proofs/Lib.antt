@@ -3,6 +3,7 @@ pub mod Starts
 pub mod Marks
 pub mod Jumps
 pub mod Findings
+pub mod Rounds
 pub mod Walked
 pub mod Scanned
 pub mod Exactly

@@ -14,7 +14,7 @@ use Rattle.routine.specs.Flow.{instructionAt, flowAt, past, isForbidden}
 use Rattle.routine.specs.Rules.{Start, at-first, after}
 use Rattle.routine.specs.Screen.{refusedAt, walk}
 use Rattle.routine.proofs.Starts.{start-low, start-high, first-or-later}
-use Rattle.routine.proofs.Findings.{Sound, Every, Below, Finding, forbidden, runs-past, Shows}
+use Rattle.routine.proofs.Findings.{Sound, Every, Below, Lowest, Finding, forbidden, runs-past, Shows}
 
 module _ (m : List ℕ) (first end : ℕ) where
   abbrev IsSound : ℕ → Type 0
@@ -39,6 +39,9 @@ module _ (m : List ℕ) (first end : ℕ) where
       go (inl h) = h .0
       go (inr s) = absurd (omega (arith, start-low s))
 
+  lowest : {p : ℕ} → p < end → Reached p → Lowest m first end 0 p
+  lowest low r = record { start = r .here low; earlier = λ j none. absurd (omega arith); below = sound-below r }
+
   reach-next : {p : ℕ} → p < end → Reached p → IsSound p → Reached (past m p)
   reach-next {p} low r ok = record { here = λ h. after (r .here low) h; sorted = λ b s. go b (r .sorted b s) }
     where
@@ -61,10 +64,10 @@ module _ (m : List ℕ) (first end : ℕ) where
       rest = operands (instructionAt m at)
 
       test : Reached at → (b : Bool) → isForbidden (flowAt m at) ≡ b → ((end < suc at + rest → Finding m first end PastTheEnd at) → (suc at + rest ≤ end → Reached (suc at + rest)) → Told (walk m at rest (suc at) n)) → Told (if b then refusedAt ForbiddenOpcode at else walk m at rest (suc at) n)
-      test r true f go = forbidden (r .here (omega arith)) (sound-below r) (rw f tt)
+      test r true f go = forbidden (lowest (omega arith) r) (rw f tt)
       test r false f go =
           let ok : T (not (isForbidden (flowAt m at))) = rw f tt in
-          go (λ far. runs-past (r .here (omega arith)) (sound-below r) ok (omega arith))
+          go (λ far. runs-past (lowest (omega arith) r) ok (omega arith))
           (λ fits. subst Reached (omega arith) (reach-next (omega arith) r (ok, omega arith)))
   walks start (suc k) at (suc n) e late r = walks start k (suc at) n (omega arith) (λ far. late (omega arith)) (λ fits. subst Reached (omega arith) (r (omega arith)))
 

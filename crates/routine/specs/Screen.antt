@@ -1,6 +1,6 @@
 -- What the screen answers of a window and leaves in the marks: the tests before the walk, the walk, and the tests after it.
 use mathlib.Core.Bool.{Bool, true, false, not, _&&_}
-use mathlib.Core.List.{List, [], _∷_}
+use mathlib.Core.List.{List, [], _∷_, map}
 use Prim.Native.Nat.{ℕ, zero, suc, _+_, _-_}
 use lib.Dec.{eqb, leb, ltb}
 use lib.ListN.{getD, length, replicate}
@@ -11,6 +11,8 @@ use Rattle.verdict.specs.declared.Verdict.the-variants.{Passes, Refused, Refuse
 use Rattle.sm83.specs.Basics.{if_then_else_}
 use Rattle.sm83.specs.State.{addr}
 use Rattle.opcodes.specs.Instruction.{operands}
+use Rattle.routine.specs.declared.Test.{Test}
+use Rattle.routine.specs.declared.Test.the-variants.{Ends, Lands}
 use Rattle.routine.specs.Flow.{instructionAt, flowAt, past, isForbidden, endsRoutine, jumpsWhere}
 
 abbrev pub refusedAt : ScreenRefusal → ℕ → Verdict
@@ -42,15 +44,17 @@ marksOf m first n = marksFrom m 0 first n
 abbrev pub isMarked : List ℕ → ℕ → ℕ → Bool
 isMarked marks first a = leb first a && eqb (getD marks (a - first) 0) 1
 
--- The tests of one marked address.
+-- The tests of one marked address of a window up to end: what passes each, and what is refused if it does not.
 
+abbrev pub passes : Test → List ℕ → (ℕ → Bool) → ℕ → ℕ → Bool
 -- 9: "the last instruction must be an unconditional JP, JR or RET"
-abbrev pub endsWell : List ℕ → ℕ → ℕ → Bool
-endsWell m end a = if eqb (past m a) end then endsRoutine (flowAt m a) else true
-
+passes Ends m marked end a = if eqb (past m a) end then endsRoutine (flowAt m a) else true
 -- 10: "JP or JR, conditional or not, to an unmarked address"
-abbrev pub landsWell : List ℕ → (ℕ → Bool) → ℕ → Bool
-landsWell m marked a = jumpsWhere marked (flowAt m a)
+passes Lands m marked end a = jumpsWhere marked (flowAt m a)
+
+abbrev pub refusalOf : Test → ScreenRefusal
+refusalOf Ends = FallsThrough
+refusalOf Lands = JumpUnmarked
 
 -- the lowest of n addresses from `at` on that is marked and fails the test
 unfoldable pub scan : ScreenRefusal → (ℕ → Bool) → (ℕ → Bool) → ℕ → ℕ → Verdict
@@ -59,6 +63,9 @@ scan r marked test at (suc n) =
     let rest : Verdict = scan r marked test (suc at) n in
     if marked at && not (test at) then refusedAt r at else rest
 
+abbrev pub scanFor : List ℕ → (ℕ → Bool) → ℕ → ℕ → Test → Verdict
+scanFor m marked first n t = scan (refusalOf t) marked (passes t m marked (first + n)) first n
+
 -- the first finding of a list of them
 abbrev pub firstOf : List Verdict → Verdict
 firstOf [] = Passes
@@ -66,13 +73,12 @@ firstOf (Passes ∷ l) = firstOf l
 firstOf (Refused r ∷ l) = Refused r
 firstOf (RefusedAt r a ∷ l) = RefusedAt r a
 
--- 7 and 8, then 9, then 10, "lowest jump first"
+-- after 7 and 8 comes 9, then 10, "lowest jump first"
+abbrev pub tests : List Test
+tests = Ends ∷ Lands ∷ []
+
 abbrev pub findings : List ℕ → (ℕ → Bool) → ℕ → ℕ → List Verdict
-findings m marked first n =
-    walk m first 0 first n
-    ∷ scan FallsThrough marked (endsWell m (first + n)) first n
-    ∷ scan JumpUnmarked marked (landsWell m marked) first n
-    ∷ []
+findings m marked first n = walk m first 0 first n ∷ map (scanFor m marked first n) tests
 
 unfoldable pub verdict : List ℕ → ℕ → ℕ → Verdict
 verdict m first n = firstOf (findings m (isMarked (marksOf m first n) first) first n)

@@ -1,16 +1,16 @@
--- A verdict that passes and one that refuses, as a match tells them apart; and the first finding of three.
-use mathlib.Core.Path.{_≡_, refl}
-use mathlib.Core.List.{List, [], _∷_}
+-- A verdict that passes and one that refuses, as a match tells them apart; and the first finding of several.
+use mathlib.Core.Path.{_≡_, refl, sym, ap, _∙_}
+use mathlib.Core.List.{List, [], _∷_, _++_, map}
 use Prim.Native.Nat.{ℕ}
 use native.Mathlib.Omega.{arith}
-use lib.ListN.{length, replicate}
+use lib.ListN.{length}
 use types.Run.{OneOf, miss}
 use denote.Enum.Declared.{tagOf}
 use Rattle.verdict.specs.declared.Verdict.{Verdict}
 use Rattle.verdict.specs.declared.Verdict.the-variants.{Passes, Refused, RefusedAt}
 use Rattle.verdict.proofs.Verdict.{the-type}
-use Rattle.routine.specs.Screen.{firstOf}
-use Rattle.walks.specs.Parts.{settled}
+use Rattle.routine.specs.declared.Test.{Test}
+use Rattle.routine.specs.Screen.{isMarked, scanFor, firstOf}
 
 pub passes : (v : Verdict) → tagOf the-type v ≡ 0 → v ≡ Passes
 passes Passes e = refl
@@ -22,28 +22,54 @@ refuses Passes one e = miss (1 ∷ 2 ∷ []) 0 tt one
 refuses (Refused r) one e = let z : _≡_ {A = ℕ} 0 1 = cc in omega arith
 refuses (RefusedAt r a) one e = let z : _≡_ {A = ℕ} 0 1 = cc in omega arith
 
-pub third : (u v w : Verdict) → firstOf (u ∷ v ∷ []) ≡ Passes → firstOf (u ∷ v ∷ w ∷ []) ≡ w
-third Passes Passes Passes e = refl
-third Passes Passes (Refused r) e = refl
-third Passes Passes (RefusedAt r a) e = refl
-third Passes (Refused r) w e = let z : _≡_ {A = ℕ} 0 1 = cc in absurd (omega arith)
-third Passes (RefusedAt r a) w e = let z : _≡_ {A = ℕ} 0 1 = cc in absurd (omega arith)
-third (Refused r) v w e = let z : _≡_ {A = ℕ} 0 1 = cc in absurd (omega arith)
-third (RefusedAt r a) v w e = let z : _≡_ {A = ℕ} 0 1 = cc in absurd (omega arith)
+alone : (v : Verdict) → v ≡ firstOf (v ∷ [])
+alone Passes = refl
+alone (Refused r) = refl
+alone (RefusedAt r a) = refl
 
-pub not-third : (u v w : Verdict) → (firstOf (u ∷ v ∷ []) ≡ Passes → ⊥) → firstOf (u ∷ v ∷ w ∷ []) ≡ firstOf (u ∷ v ∷ [])
-not-third Passes Passes w refused = absurd (refused refl)
-not-third Passes (Refused r) w refused = refl
-not-third Passes (RefusedAt r a) w refused = refl
-not-third (Refused r) v w refused = refl
-not-third (RefusedAt r a) v w refused = refl
+-- of two findings the second decides where the first passes
+pub second-decides : (v w : Verdict) → v ≡ Passes → w ≡ firstOf (v ∷ w ∷ [])
+second-decides v w passed = alone w ∙ rw passed
 
-pub kept : (v : Verdict) (marks : List ℕ) → v ≡ Passes → marks ≡ settled v marks
-kept Passes marks e = refl
-kept (Refused r) marks e = let z : _≡_ {A = ℕ} 0 1 = cc in absurd (omega arith)
-kept (RefusedAt r a) marks e = let z : _≡_ {A = ℕ} 0 1 = cc in absurd (omega arith)
+-- and else the first
+pub found-decides : (v w : Verdict) → (v ≡ Passes → ⊥) → v ≡ firstOf (v ∷ w ∷ [])
+found-decides Passes w refused = absurd (refused refl)
+found-decides (Refused r) w refused = refl
+found-decides (RefusedAt r a) w refused = refl
 
-pub cleared : (v : Verdict) (marks : List ℕ) → (v ≡ Passes → ⊥) → replicate (length marks) 0 ≡ settled v marks
-cleared Passes marks refused = absurd (refused refl)
-cleared (Refused r) marks refused = refl
-cleared (RefusedAt r a) marks refused = refl
+-- what follows the first finding matters only if that passes
+pub after-passing : (v : Verdict) (l other : List Verdict) → (v ≡ Passes → l ≡ other) → firstOf (v ∷ l) ≡ firstOf (v ∷ other)
+after-passing Passes l other same = ap firstOf (same refl)
+after-passing (Refused r) l other same = refl
+after-passing (RefusedAt r a) l other same = refl
+
+-- where all pass, so does the first
+pub first-passes : (v : Verdict) (l : List Verdict) → firstOf (v ∷ l) ≡ Passes → v ≡ Passes
+first-passes Passes l e = refl
+first-passes (Refused r) l e = e
+first-passes (RefusedAt r a) l e = e
+
+-- A chain of tests after the walk, on a memory and the marks of a window: the first finding of the walk and the tests so far.
+pub record Found (m : List ℕ) (first : ℕ) (marks : List ℕ) (walked : Verdict) (so-far : List Test) (v : Verdict) : Type 0 where
+  pub first-found : v ≡ firstOf (walked ∷ map (scanFor m (isMarked marks first) first (length marks)) so-far)
+
+pub no-test : (m : List ℕ) (first : ℕ) (marks : List ℕ) (walked : Verdict) → Found m first marks walked [] walked
+no-test m first marks walked = record { first-found = alone walked }
+
+module _ {m : List ℕ} {first : ℕ} {marks : List ℕ} {walked : Verdict} where
+  -- and one more test
+  pub and-then : {so-far : List Test} {found r : Verdict} (t : Test) → Found m first marks walked so-far found → r ≡ firstOf (found ∷ scanFor m (isMarked marks first) first (length marks) t ∷ []) → Found m first marks walked (so-far ++ t ∷ []) r
+  and-then {so-far} t before e = record { first-found = e ∙ ap (λ (u : Verdict). firstOf (u ∷ scans (t ∷ []))) (before .first-found) ∙ joined (walked ∷ scans so-far) (scans (t ∷ [])) ∙ ap (λ (l : List Verdict). firstOf (walked ∷ l)) (sym (scanned so-far)) }
+    where
+      scans : List Test → List Verdict
+      scans = map (scanFor m (isMarked marks first) first (length marks))
+
+      joined : (k l : List Verdict) → firstOf (firstOf k ∷ l) ≡ firstOf (k ++ l)
+      joined [] l = refl
+      joined (Passes ∷ k) l = joined k l
+      joined (Refused q ∷ k) l = refl
+      joined (RefusedAt q a ∷ k) l = refl
+
+      scanned : (l : List Test) → scans (l ++ t ∷ []) ≡ scans l ++ scans (t ∷ [])
+      scanned [] = refl
+      scanned (q ∷ l) = ap (λ (k : List Verdict). scanFor m (isMarked marks first) first (length marks) q ∷ k) (scanned l)

@@ -1,56 +1,44 @@
--- The parts together: 7 and 8, then 9, then 10; and the tests before them.
-use mathlib.Core.Path.{_≡_, refl, sym, ap, ap₂, subst⁻¹, _∙_}
-use mathlib.Core.List.{List}
-use Prim.Native.Nat.{ℕ, _+_, _-_}
-use native.Mathlib.Omega.{arith}
-use lib.ListN.{length, replicate, length-replicate}
+-- The parts together: the walk and the tests after it; and the tests before them.
+use mathlib.Core.Path.{_≡_, refl, sym, ap, ap₂, _∙_}
+use mathlib.Core.List.{List, _∷_, map}
+use Prim.Native.Nat.{ℕ}
+use lib.ListN.{length, replicate}
 use Rattle.verdict.specs.declared.ScreenRefusal.{ScreenRefusal}
-use Rattle.verdict.specs.declared.ScreenRefusal.the-variants.{JumpUnmarked}
 use Rattle.verdict.specs.declared.Verdict.{Verdict}
 use Rattle.verdict.specs.declared.Verdict.the-variants.{Passes, Refused, RefusedAt}
-use Rattle.routine.specs.Screen.{walk, scan, marksOf, isMarked, landsWell, marksAfter, verdict, Screened, screen}
+use Rattle.routine.specs.Screen.{walk, scanFor, firstOf, tests, marksOf, isMarked, marksAfter, verdict, Screened, screen}
 use Rattle.routine.proofs.Marks.{marks-length}
 use Rattle.routine.proofs.Before.{Early, Admitted, refuses, admits}
-use Rattle.walks.specs.Parts.{Inside, fallsFrom, straysFrom, settled, Walked, Judged}
-use Rattle.screen.proofs.Verdicts.{third, not-third}
+use Rattle.screen.proofs.Verdicts.{first-passes, after-passing}
 
--- the marks as the walk wants them
-pub fresh : (m : List ℕ) (first : ℕ) (marks cleared : List ℕ) → Inside m first (length marks) → cleared ≡ replicate (length marks) 0 → Inside m first (length cleared) × (cleared ≡ replicate (length cleared) 0)
-fresh m first marks cleared inside e = (subst⁻¹ (Inside m first) same inside, e ∙ ap (λ (j : ℕ). replicate j 0) (sym same))
-  where
-    same : length cleared ≡ length marks
-    same = ap length e ∙ length-replicate (length marks) 0
+-- the walk with the marks that it left, and the first finding of the walk and the tests of those marks
+pub record Tested (m : List ℕ) (first n : ℕ) (walked found : Verdict) (marks : List ℕ) : Type 0 where
+  pub walk-found : walked ≡ walk m first 0 first n
+  pub walk-left : marks ≡ marksAfter walked m first n
+  pub tests-found : found ≡ firstOf (walked ∷ map (scanFor m (isMarked marks first) first (length marks)) tests)
 
-module _ (m : List ℕ) (first n : ℕ) where
-  abbrev astray : Verdict
-  astray = scan JumpUnmarked (isMarked (marksOf m first n) first) (landsWell m (isMarked (marksOf m first n) first)) first n
+module _ {m : List ℕ} {first n : ℕ} {walked found : Verdict} {marks : List ℕ} (t : Tested m first n walked found marks) where
+  abbrev found-in : List ℕ → ℕ → List Verdict
+  found-in l k = map (scanFor m (isMarked l first) first k) tests
 
-  -- 10 decides
-  pub judged-by-10 : (found r : Verdict) (marks : List ℕ) → Walked m first n found marks → found ≡ Passes → r ≡ straysFrom m first marks 0 → Judged m first n r marks
+  starts : walked ≡ Passes → marks ≡ marksOf m first n
+  starts passed = t .walk-left ∙ ap (λ (v : Verdict). marksAfter v m first n) passed
+
+  pub judged : found ≡ verdict m first n
   unfolding verdict
-  judged-by-10 found r marks walked passed told =
-      record {
-        finding = told ∙ ap (λ (l : List ℕ). straysFrom m first l 0) starts ∙ ap₂ (scan JumpUnmarked (isMarked (marksOf m first n) first) (landsWell m (isMarked (marksOf m first n) first))) from all ∙ sym (third (walk m first 0 first n) (fallsFrom m first n) astray (sym (walked .finding) ∙ passed));
-        starts = λ e. starts;
-      }
+  judged = t .tests-found ∙ after-passing walked (found-in marks (length marks)) (found-in (marksOf m first n) n) same ∙ ap (λ (v : Verdict). firstOf (v ∷ found-in (marksOf m first n) n)) (t .walk-found)
     where
-      starts : marks ≡ marksOf m first n
-      starts = walked .starts passed
+      same : walked ≡ Passes → found-in marks (length marks) ≡ found-in (marksOf m first n) n
+      same passed = ap (λ (l : List ℕ). found-in l (length l)) (starts passed) ∙ ap (found-in (marksOf m first n)) (marks-length m first n)
 
-      from : first + 0 ≡ first
-      from = omega arith
+  pub left-as-walked : found ≡ Passes → marks ≡ marksAfter found m first n
+  left-as-walked passed = starts (first-passes walked (found-in marks (length marks)) (sym (t .tests-found) ∙ passed)) ∙ ap (λ (v : Verdict). marksAfter v m first n) (sym passed)
 
-      all : length (marksOf m first n) - 0 ≡ n
-      all = omega (arith, marks-length m first n)
-
-  -- 7, 8 or 9 decides
-  pub judged-before : (found : Verdict) (marks : List ℕ) → Walked m first n found marks → (found ≡ Passes → ⊥) → Judged m first n found marks
-  unfolding verdict
-  judged-before found marks walked refused =
-      record {
-        finding = walked .finding ∙ sym (not-third (walk m first 0 first n) (fallsFrom m first n) astray (λ e. refused (walked .finding ∙ e)));
-        starts = walked .starts;
-      }
+-- "marks all 0"
+pub left-clear : (v : Verdict) (m : List ℕ) (first n : ℕ) → (v ≡ Passes → ⊥) → replicate n 0 ≡ marksAfter v m first n
+left-clear Passes m first n refused = absurd (refused refl)
+left-clear (Refused r) m first n refused = refl
+left-clear (RefusedAt r a) m first n refused = refl
 
 module _ (m : List ℕ) (first last : ℕ) (marks : List ℕ) where
   -- what the screen answers, and the marks that it leaves
@@ -65,15 +53,10 @@ module _ (m : List ℕ) (first last : ℕ) (marks : List ℕ) where
   early {r} e = answers (Refused r) marks (refuses m first last marks e)
 
   -- 7, 8, 9, 10: "marks all 0", or none applies
-  pub late : Admitted m first last marks → (v w : Verdict) (judged left : List ℕ) → length judged ≡ length marks → Judged m first (length marks) v judged → w ≡ v → left ≡ settled v judged → Answers w left
-  late ok v w judged left k said same e =
-      answers w left
+  pub late : Admitted m first last marks → (v : Verdict) (left : List ℕ) → v ≡ verdict m first (length marks) → left ≡ marksAfter v m first (length marks) → Answers v left
+  late ok v left said e =
+      answers v left
       (admits m first last marks ok
       ∙ ap {B = Screened} (λ (j : ℕ). record { verdict = verdict m first j; marks = marksAfter (verdict m first j) m first j }) (sym (ok .marks-size))
-      ∙ ap {B = Screened} (λ (u : Verdict). record { verdict = u; marks = marksAfter u m first (length marks) }) (sym (said .finding))
-      ∙ ap₂ {C = Screened} (λ (u : Verdict) (l : List ℕ). record { verdict = u; marks = l }) (sym same) (sym (e ∙ after v (said .starts))))
-    where
-      after : (u : Verdict) → (u ≡ Passes → judged ≡ marksOf m first (length marks)) → settled u judged ≡ marksAfter u m first (length marks)
-      after Passes starts = starts refl
-      after (Refused r) starts = ap (λ (j : ℕ). replicate j 0) k
-      after (RefusedAt r a) starts = ap (λ (j : ℕ). replicate j 0) k
+      ∙ ap {B = Screened} (λ (u : Verdict). record { verdict = u; marks = marksAfter u m first (length marks) }) (sym said)
+      ∙ ap {B = Screened} (λ (l : List ℕ). record { verdict = v; marks = l }) (sym e))

@@ -1,39 +1,52 @@
 // The routine screen: the tests before the walk, the walk, and the tests after it.
 ghost use mathlib.Core.Path.{_≡_};
+ghost use mathlib.Core.List.{[], _∷_, map};
 ghost use lib.ListN.{length};
-ghost use Rattle.routine.specs.Screen.{verdict, screen};
-ghost use Rattle.walks.specs.Parts.{Inside, settled, Judged};
+ghost use Rattle.routine.specs.Screen.{isMarked, scanFor, firstOf, tests, verdict, marksAfter, screen};
+ghost use Rattle.walks.specs.Parts.{Inside};
+use routine::Test;
 use shapes::window::clear;
 use sm83::Addr;
-use targets::strays;
+use targets::scan;
 use verdict::ScreenRefusal;
 use verdict::Verdict;
 use walks::walk::walk;
 
 const LONGEST_WINDOW: usize = 4096;
 
-// 7 and 8, then 9, then 10.
-fn judge(mem: &[u8], first: Addr, marks: &mut [u8]) -> Verdict
+// What was found before, or else what the next test finds.
+fn then(found: Verdict, mem: &[u8], first: Addr, marks: &[u8], test: Test) -> Verdict
     requires { ⌜ Inside (now mem) (first .0) (length (now marks)) ⌝ }
-    ensures { λ r. ⌜ Judged (now (mem .entry)) (first .0) (length (now (marks .entry))) r (now (marks .exit)) ⌝ }
+    ensures { λ r. ⌜ r ≡ firstOf (found ∷ scanFor (now (mem .entry)) (isMarked (now (marks .entry)) (first .0)) (first .0) (length (now (marks .entry))) test ∷ []) ⌝ }
 {
-    clear(marks);
-    let found = walk(mem, first, marks);
     match found {
-        Verdict::Passes => strays(mem, first, marks),
+        Verdict::Passes => scan(mem, first, marks, test),
         _ => found,
     }
 }
 
-// "marks all 0", unless it passes
-fn settle(verdict: Verdict, marks: &mut [u8]) -> Verdict
-    ensures { λ r. ⌜ (r ≡ verdict) × (now (marks .exit) ≡ settled verdict (now (marks .entry))) ⌝ }
+// "After the walk comes 9", "Then 10".
+fn after_walk(walked: Verdict, mem: &[u8], first: Addr, marks: &[u8]) -> Verdict
+    requires { ⌜ Inside (now mem) (first .0) (length (now marks)) ⌝ }
+    ensures { λ r. ⌜ r ≡ firstOf (walked ∷ map (scanFor (now (mem .entry)) (isMarked (now (marks .entry)) (first .0)) (first .0) (length (now (marks .entry)))) tests) ⌝ }
 {
-    match verdict {
-        Verdict::Passes => verdict,
+    let found = then(walked, mem, first, marks, Test::Ends);
+    then(found, mem, first, marks, Test::Lands)
+}
+
+// 7 and 8, then the tests after them; "marks all 0", unless it passes.
+fn judge(mem: &[u8], first: Addr, marks: &mut [u8]) -> Verdict
+    requires { ⌜ Inside (now mem) (first .0) (length (now marks)) ⌝ }
+    ensures { λ r. ⌜ r ≡ verdict (now (mem .entry)) (first .0) (length (now (marks .entry))) ⌝ }
+    ensures { λ r. ⌜ now (marks .exit) ≡ marksAfter r (now (mem .entry)) (first .0) (length (now (marks .entry))) ⌝ }
+{
+    let walked = walk(mem, first, marks);
+    let found = after_walk(walked, mem, first, marks);
+    match found {
+        Verdict::Passes => found,
         _ => {
             clear(marks);
-            verdict
+            found
         }
     }
 }
@@ -56,5 +69,5 @@ pub fn screen(mem: &[u8], first: Addr, last: Addr, marks: &mut [u8]) -> Verdict
     if marks.len() != n {
         return Verdict::Refused(ScreenRefusal::MarksLength);
     }
-    settle(judge(mem, first, marks), marks)
+    judge(mem, first, marks)
 }

@@ -1,3 +1,3 @@
 -- Laws over plain variables that the functions' proofs cite.
 pub mod Targets
-pub mod Scan
+pub mod Scanning

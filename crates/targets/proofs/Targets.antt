@@ -1,15 +1,20 @@
--- Where a JP and a JR go, and whether an address is marked.
-use mathlib.Core.Path.{_≡_}
-use mathlib.Core.Bool.{false}
+-- Where a JP and a JR go, whether an address is marked, and whether the last instruction ends the routine.
+use mathlib.Core.Path.{_≡_, sym, ap}
+use mathlib.Core.Bool.{Bool, true, false}
 use mathlib.Core.List.{List}
 use Prim.Native.Nat.{ℕ, _+_, _-_, _*_, _%_, _≤_, _<_}
 use native.Mathlib.Omega.{arith}
 use lib.Dec.{eqb}
 use lib.ListN.{length, getD, List·getD-eq-default}
-use borrow.Author.Tests.{le-leb, lt-leb}
+use borrow.Author.Tests.{le-leb, lt-leb, eq-eqb, ne-eqb}
 use Rattle.sm83.specs.Basics.{word, signed, offset, next}
 use Rattle.definition.specs.Bus.{byteAt}
-use Rattle.routine.specs.Screen.{isMarked}
+use Rattle.routine.specs.declared.Test.the-variants.{Ends}
+use Rattle.routine.specs.Flow.{instructionAt, past, endsRoutine}
+use Rattle.routine.specs.Screen.{isMarked, passes}
+use Rattle.shapes.specs.declared.class.Shape.{Shape}
+use Rattle.shapes.specs.Class.{shapeOf, flowOfClass}
+use Rattle.shapes.proofs.Classes.{class-test}
 
 pub absolute-target : (m : List ℕ) (a low high : ℕ) → low ≡ byteAt m ((a + 1) % 65536) → high ≡ byteAt m ((a + 2) % 65536) → high * 256 + low ≡ word (byteAt m (next (next a))) (byteAt m (next a))
 absolute-target m a low high l h =
@@ -29,3 +34,14 @@ module _ (marks : List ℕ) (first target : ℕ) where
 
   pub mark-past : first ≤ target → length marks ≤ target - first → false ≡ isMarked marks first target
   mark-past low high = rw (le-leb _ _ low, List·getD-eq-default marks 0 high)
+
+-- 9 by the shape that was read at an address
+module _ (m : List ℕ) (marked : ℕ → Bool) (end a : ℕ) (s : Shape) (read : s ≡ shapeOf (instructionAt m a)) where
+  length-here : past m a ≡ a + s .0
+  length-here = omega (arith, ap (λ (t : Shape). t .0) read)
+
+  pub last-here : a + s .0 ≡ end → (b : Bool) → ((p u v : ℕ) → b ≡ endsRoutine (flowOfClass (s .1) p u v)) → b ≡ passes Ends m marked end a
+  last-here last b told = rw (eq-eqb (past m a) end (omega (arith, length-here))) (sym (class-test m a s read endsRoutine b told))
+
+  pub not-last : (a + s .0 ≡ end → ⊥) → true ≡ passes Ends m marked end a
+  not-last other = rw (ne-eqb (past m a) end (λ e. other (omega (arith, length-here))))

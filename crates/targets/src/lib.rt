@@ -1,11 +1,13 @@
-// 10: "JP or JR, conditional or not, to an unmarked address", "lowest jump first".
+// The screen's tests of one marked address, and the one loop that looks for the lowest address that fails a test.
 ghost use mathlib.Core.Path.{_≡_};
 ghost use Prim.Native.Nat.{_+_, _%_};
 ghost use lib.ListN.{length};
 ghost use Rattle.sm83.specs.Basics.{word, signed, offset, next};
 ghost use Rattle.definition.specs.Bus.{byteAt};
-ghost use Rattle.routine.specs.Screen.{isMarked, landsWell};
-ghost use Rattle.walks.specs.Parts.{Inside, straysFrom};
+ghost use Rattle.routine.specs.declared.Test.the-variants.{Ends, Lands};
+ghost use Rattle.routine.specs.Screen.{isMarked, passes, refusalOf, scanFor};
+ghost use Rattle.walks.specs.Parts.{Inside};
+use routine::Test;
 use shapes::class::Class;
 use shapes::window::address;
 use shapes::window::shape_at;
@@ -69,10 +71,26 @@ fn is_marked(first: Addr, marks: &[u8], target: Addr) -> bool
     }
 }
 
-// The instruction at an address, if it is a JP or JR, goes to a marked address.
+// 9: "the last instruction must be an unconditional JP, JR or RET"
+fn ends(mem: &[u8], first: Addr, marks: &[u8], at: Addr) -> bool
+    requires { ⌜ length (now mem) ≡ 65536 ⌝ }
+    ensures { λ r. ⌜ r ≡ passes Ends (now (mem .entry)) (isMarked (now (marks .entry)) (first .0)) (first .0 + length (now (marks .entry))) (at .0) ⌝ }
+{
+    let shape = shape_at(mem, at);
+    let end = first.0 as usize + marks.len();
+    let past = at.0 as usize + shape.0 as usize;
+    if past == end {
+        let class = shape.1;
+        class.ends_routine()
+    } else {
+        true
+    }
+}
+
+// 10: the instruction at an address, if it is a JP or JR, goes to a marked address.
 fn lands(mem: &[u8], first: Addr, marks: &[u8], at: Addr) -> bool
     requires { ⌜ length (now mem) ≡ 65536 ⌝ }
-    ensures { λ r. ⌜ r ≡ landsWell (now (mem .entry)) (isMarked (now (marks .entry)) (first .0)) (at .0) ⌝ }
+    ensures { λ r. ⌜ r ≡ passes Lands (now (mem .entry)) (isMarked (now (marks .entry)) (first .0)) (first .0 + length (now (marks .entry))) (at .0) ⌝ }
 {
     let shape = shape_at(mem, at);
     let class = shape.1;
@@ -83,17 +101,38 @@ fn lands(mem: &[u8], first: Addr, marks: &[u8], at: Addr) -> bool
     }
 }
 
-// The lowest marked address whose instruction jumps to an unmarked one.
-pub fn strays(mem: &[u8], first: Addr, marks: &[u8]) -> Verdict
+// Whether a marked address passes a test.
+fn passes(test: Test, mem: &[u8], first: Addr, marks: &[u8], at: Addr) -> bool
     requires { ⌜ Inside (now mem) (first .0) (length (now marks)) ⌝ }
-    ensures { λ r. ⌜ r ≡ straysFrom (now (mem .entry)) (first .0) (now (marks .entry)) 0 ⌝ }
+    ensures { λ r. ⌜ r ≡ passes test (now (mem .entry)) (isMarked (now (marks .entry)) (first .0)) (first .0 + length (now (marks .entry))) (at .0) ⌝ }
+{
+    match test {
+        Test::Ends => ends(mem, first, marks, at),
+        Test::Lands => lands(mem, first, marks, at),
+    }
+}
+
+// What is refused if it does not.
+fn refusal_of(test: Test) -> ScreenRefusal
+    ensures { λ r. ⌜ r ≡ refusalOf test ⌝ }
+{
+    match test {
+        Test::Ends => ScreenRefusal::FallsThrough,
+        Test::Lands => ScreenRefusal::JumpUnmarked,
+    }
+}
+
+// The lowest marked address that fails a test.
+pub fn scan(mem: &[u8], first: Addr, marks: &[u8], test: Test) -> Verdict
+    requires { ⌜ Inside (now mem) (first .0) (length (now marks)) ⌝ }
+    ensures { λ r. ⌜ r ≡ scanFor (now (mem .entry)) (isMarked (now (marks .entry)) (first .0)) (first .0) (length (now (marks .entry))) test ⌝ }
 {
     let mut i = 0;
     while i < marks.len() {
         if marks[i] == 1 {
             let at = address(first, i);
-            if !lands(mem, first, marks, at) {
-                return Verdict::RefusedAt(ScreenRefusal::JumpUnmarked, at);
+            if !passes(test, mem, first, marks, at) {
+                return Verdict::RefusedAt(refusal_of(test), at);
             }
         }
         i += 1;

@@ -1,5 +1,4 @@
 -- Laws over plain variables that the functions' proofs cite.
 pub mod Steps
-pub mod LastOne
 pub mod Reached
 pub mod Turn

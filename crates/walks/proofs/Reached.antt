@@ -6,29 +6,25 @@ use Prim.Native.Nat.{ℕ, suc, _+_, _-_, _≤_, _<_}
 use native.Mathlib.Omega.{arith}
 use lib.ListN.{length, take, drop, set, replicate, length-set, replicate-append-replicate}
 use lib.Seq.{set-at, take-add, drop-drop, take-all, length-take-le}
-use Rattle.verdict.specs.declared.ScreenRefusal.{ScreenRefusal}
 use Rattle.verdict.specs.declared.ScreenRefusal.the-variants.{ForbiddenOpcode, PastTheEnd}
 use Rattle.verdict.specs.declared.Verdict.{Verdict}
-use Rattle.verdict.specs.declared.Verdict.the-variants.{Passes, Refused, RefusedAt}
+use Rattle.verdict.specs.declared.Verdict.the-variants.{Passes}
 use Rattle.opcodes.specs.Instruction.{operands}
 use Rattle.routine.specs.Flow.{instructionAt, flowAt, isForbidden}
-use Rattle.routine.specs.Screen.{refusedAt, walk, firstOf, marksFrom, marksOf}
+use Rattle.routine.specs.Screen.{refusedAt, walk, marksFrom, marksOf, marksAfter}
 use Rattle.routine.proofs.Marks.{marks-length}
-use Rattle.walks.specs.Parts.{fallsAt, fallsFrom, Walked}
-use Rattle.walks.proofs.Steps.{lastFrom, lengthAt, refused-7, refused-8, walk-on, last-on, marks-on, marks-of-one}
-use Rattle.walks.proofs.LastOne.{last-one}
+use Rattle.walks.proofs.Steps.{lengthAt, refused-7, refused-8, walk-on, marks-on, marks-of-one}
 
 module _ (m : List ℕ) (first n : ℕ) where
-  -- the walk stands at a start, or at the window's end; the instruction before began at `last`
-  pub record Reached (at last : ℕ) (marks : List ℕ) : Type 0 where
+  -- the walk stands at a start, or at the window's end
+  pub record Reached (at : ℕ) (marks : List ℕ) : Type 0 where
     pub inside : at ≤ n
     pub kept : length marks ≡ n
     pub walked : walk m first 0 first n ≡ walk m first 0 (first + at) (n - at)
-    pub lasts : lastFrom m first 0 first n ≡ lastFrom m last 0 (first + at) (n - at)
     pub ahead : drop at (marksOf m first n) ≡ marksFrom m 0 (first + at) (n - at)
     pub marked : marks ≡ take at (marksOf m first n) ++ replicate (n - at) 0
 
-  pub begun : (marks : List ℕ) → length marks ≡ n → marks ≡ replicate n 0 → Reached 0 first marks
+  pub begun : (marks : List ℕ) → length marks ≡ n → marks ≡ replicate n 0 → Reached 0 marks
   begun marks k clear =
       let all : n ≡ n - 0 = omega arith in
       let here : first ≡ first + 0 = omega arith in
@@ -36,12 +32,11 @@ module _ (m : List ℕ) (first n : ℕ) where
         inside = omega arith;
         kept = k;
         walked = ap₂ (walk m first 0) here all;
-        lasts = ap₂ (lastFrom m first 0) here all;
         ahead = ap₂ (marksFrom m 0) here all;
         marked = clear ∙ ap (λ (j : ℕ). replicate j 0) all;
       }
 
-  module _ {at last : ℕ} {marks : List ℕ} (r : Reached at last marks) (more : at < n) where
+  module _ {at : ℕ} {marks : List ℕ} (r : Reached at marks) (more : at < n) where
     pub found-7 : isForbidden (flowAt m (first + at)) ≡ true → walk m first 0 first n ≡ refusedAt ForbiddenOpcode (first + at)
     found-7 bad = r .walked ∙ refused-7 m first (first + at) (n - at) (omega arith) bad
 
@@ -50,14 +45,13 @@ module _ (m : List ℕ) (first n : ℕ) where
       found-8 far = r .walked ∙ refused-8 m first (first + at) (n - at) (omega arith) ok far
 
       -- a store of 1 at the start, and on by the instruction's length
-      pub onward : lengthAt m (first + at) ≤ n - at → Reached (at + lengthAt m (first + at)) (first + at) (set marks at 1)
+      pub onward : lengthAt m (first + at) ≤ n - at → Reached (at + lengthAt m (first + at)) (set marks at 1)
       onward fits =
           record {
             inside = omega arith;
             kept = length-set marks at 1 ∙ r .kept;
             walked = r .walked ∙ walk-on m first (first + at) to left e (n - at) (omega arith) ok;
-            lasts = r .lasts ∙ last-on m last (first + at) to left e (n - at) (omega arith);
-            ahead = sym (drop-drop len at whole) ∙ ap (drop len) (r .ahead) ∙ marks-on m last (first + at) to left e (n - at) (omega arith);
+            ahead = sym (drop-drop len at whole) ∙ ap (drop len) (r .ahead) ∙ marks-on m first (first + at) to left e (n - at) (omega arith);
             marked = ap (λ (l : List ℕ). set l at 1) before ∙ set-at (take at whole) 0 (replicate (ops + left) 0) 1 at (length-take-le at whole (omega (arith, marks-length m first n))) ∙ sym after;
           }
         where
@@ -90,30 +84,19 @@ module _ (m : List ℕ) (first n : ℕ) where
               ∙ append-assoc (take at whole) (1 ∷ replicate ops 0) (replicate left 0)
               ∙ ap (λ (l : List ℕ). take at whole ++ 1 ∷ l) (replicate-append-replicate ops left 0)
 
-  -- 7 or 8 decides
-  pub stopped : (f : ScreenRefusal) (a : ℕ) (marks : List ℕ) → walk m first 0 first n ≡ refusedAt f a → Walked m first n (refusedAt f a) marks
-  stopped f a marks found =
-      record {
-        finding = sym (ap (λ (v : Verdict). firstOf (v ∷ fallsFrom m first n ∷ [])) found);
-        starts = λ e. let z : _≡_ {A = ℕ} 0 1 = cc in absurd (omega arith);
-      }
+  -- what the walk answers, and the marks that it leaves
+  pub record Walked (r : Verdict) (marks : List ℕ) : Type 0 where
+    pub finding : r ≡ walk m first 0 first n
+    pub left : marks ≡ marksAfter r m first n
 
-  -- 9 decides
-  pub ended : {at last : ℕ} {marks : List ℕ} → Reached at last marks → n ≤ at → 0 < n → Walked m first n (fallsAt m last) marks
-  unfolding walk lastFrom
-  ended {at} {last} {marks} r done some =
+  -- neither applies at any start
+  pub ended : {at : ℕ} {marks : List ℕ} → Reached at marks → n ≤ at → Walked Passes marks
+  unfolding walk
+  ended {at} {marks} r done =
       record {
-        finding = sym (ap (λ (v : Verdict). firstOf (v ∷ fallsFrom m first n ∷ [])) passes ∙ alone (fallsFrom m first n) ∙ last-one m first n some passes ∙ ap (fallsAt m) (r .lasts ∙ ap (lastFrom m last 0 (first + at)) none));
-        starts = λ e. r .marked ∙ ap₂ (λ (l : List ℕ) (j : ℕ). l ++ replicate j 0) (take-all at (marksOf m first n) (omega (arith, marks-length m first n))) none ∙ append-nil (marksOf m first n);
+        finding = sym (r .walked ∙ ap (walk m first 0 (first + at)) none);
+        left = r .marked ∙ ap₂ (λ (l : List ℕ) (j : ℕ). l ++ replicate j 0) (take-all at (marksOf m first n) (omega (arith, marks-length m first n))) none ∙ append-nil (marksOf m first n);
       }
     where
       none : n - at ≡ 0
       none = omega arith
-
-      passes : walk m first 0 first n ≡ Passes
-      passes = r .walked ∙ ap (walk m first 0 (first + at)) none
-
-      alone : (v : Verdict) → firstOf (v ∷ []) ≡ v
-      alone Passes = refl
-      alone (Refused f) = refl
-      alone (RefusedAt f a) = refl

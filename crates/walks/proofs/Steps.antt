@@ -17,13 +17,6 @@ pass f one (suc k) at zero to left e h = absurd (omega arith)
 pass f one (suc k) at (suc n) to left e h = one k at n ∙ pass f one k (suc at) n to left (omega arith) (omega arith)
 
 module _ (m : List ℕ) where
-  -- the start of the last instruction that the walk comes to; the bytes are counted as in the definition's walk
-  unfoldable pub lastFrom : ℕ → ℕ → ℕ → ℕ → ℕ
-  lastFrom start zero at zero = start
-  lastFrom start (suc k) at zero = start
-  lastFrom start zero at (suc n) = lastFrom at (operands (instructionAt m at)) (suc at) n
-  lastFrom start (suc k) at (suc n) = lastFrom start k (suc at) n
-
   abbrev pub lengthAt : ℕ → ℕ
   lengthAt a = lengthOf (instructionAt m a)
 
@@ -62,11 +55,6 @@ module _ (m : List ℕ) where
       unfolding walk
       walk-on zero h ok = absurd (omega arith)
       walk-on (suc n) h ok = rw ok (pass (walk m at) (λ k a r. refl) (operands (instructionAt m at)) (suc at) n to left (omega arith) (omega arith) ∙ same-start at start to left)
-
-      pub last-on : (n : ℕ) → n ≡ left + lengthAt at → lastFrom start 0 at n ≡ lastFrom at 0 to left
-      unfolding lastFrom
-      last-on zero h = absurd (omega arith)
-      last-on (suc n) h = pass (lastFrom at) (λ k a r. refl) (operands (instructionAt m at)) (suc at) n to left (omega arith) (omega arith)
 
       pub marks-on : (n : ℕ) → n ≡ left + lengthAt at → drop (lengthAt at) (marksFrom m 0 at n) ≡ marksFrom m 0 to left
       unfolding marksFrom

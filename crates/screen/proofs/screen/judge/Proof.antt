@@ -1,34 +1,28 @@
--- 7, 8 or 9 decides, or 10.
-use mathlib.Core.Path.{subst}
+-- The walk and the tests after it decide; the marks stay as the walk left them, or are cleared.
+use mathlib.Core.Path.{ap, _∙_}
 use Prim.Native.Nat.{ℕ}
 use borrow.Author.Needs.{needs}
-use lib.ListN.{length}
-use Rattle.walks.specs.Parts.{Judged}
+use lib.ListN.{length, replicate}
 use Rattle.screen.proofs.Verdicts.{passes, refuses}
-use Rattle.screen.proofs.Whole.{fresh, judged-by-10, judged-before}
+use Rattle.screen.proofs.Whole.{Tested, judged, left-as-walked, left-clear}
 use Rattle.screen.proofs.screen.judge.Statement.{statement}
 use Rattle.screen.proofs.screen.judge.Tie as tie
 
-walk-requires : tie.Need-walk-requires
-walk-requires c κs =
-    let args = c .before .before .before .before .before .before .before .args in
-    fresh (args .mem .now) (args .first .0) (args .marks .now) _ (c .before .before .before .before .before .before .before .pre) (c .before .before .before .clear .ensures)
+tested : (c : tie.After-after-walk) → Tested (c .before .before .before .before .before .before .before .before .args .mem .now) (c .before .before .before .before .before .before .before .before .args .first .0) (length (c .before .before .before .before .before .before .before .before .args .marks .now)) (c .before .before .before .before .walk .result) (c .after-walk .result) (c .before .before .before .before .walk .last .1 .1 .0)
+tested c = record { walk-found = c .before .before .before .before .walk .ensures .0; walk-left = c .before .before .before .before .walk .ensures .1; tests-found = c .after-walk .ensures }
 
 returns : tie.Need-returns
 returns c =
-    let args = c .before .before .before .before .before .before .before .before .before .before .before .before .before .before .args in
-    let walk = c .before .before .before .before .before .before .walk in
-    subst (λ (n : ℕ). Judged (args .mem .now) (args .first .0) n (c .strays .result) (walk .last .1 .1 .0)) (c .before .before .before .before .before .before .before .before .before .before .clear .kept .0)
-    (judged-by-10 (args .mem .now) (args .first .0) (length (c .before .before .before .before .before .before .before .before .before .before .clear .last .0)) (walk .result) (c .strays .result) (walk .last .1 .1 .0) (walk .ensures) (passes (walk .result) (c .before .before .before .match .keys1)) (c .strays .ensures))
+    let t = tested (c .before .before) in
+    (judged t, left-as-walked t (passes _ (c .before .match .keys1)))
 
 returns-2 : tie.Need-returns-2
 returns-2 c =
-    let args = c .before .before .before .before .before .before .before .before .before .before .before .args in
-    let walk = c .before .before .before .walk in
-    subst (λ (n : ℕ). Judged (args .mem .now) (args .first .0) n (walk .result) (walk .last .1 .1 .0)) (c .before .before .before .before .before .before .before .clear .kept .0)
-    (judged-before (args .mem .now) (args .first .0) (length (c .before .before .before .before .before .before .before .clear .last .0)) (walk .result) (walk .last .1 .1 .0) (walk .ensures) (refuses (walk .result) (c .match .keys2)))
+    let args = c .before .before .before .before .before .before .before .before .before .before .before .before .before .args in
+    let found = c .before .before .before .before .before .after-walk .result in
+    (judged (tested (c .before .before .before .before .before)), c .before .before .clear .ensures ∙ ap (λ (j : ℕ). replicate j 0) (c .before .before .before .before .before .before .before .before .before .walk .kept .1 .1 .0) ∙ left-clear found (args .mem .now) (args .first .0) (length (args .marks .now)) (refuses found (c .before .before .before .before .match .keys2)))
 
 pub judge-spec : {M : Type 1} → statement M
 judge-spec =
     tie.close
-    (tie.spec (λ c κs. search needs) walk-requires (λ c. search needs) (λ c κs. search needs) (λ c. search needs) returns (λ c. search needs) returns-2)
+    (tie.spec (λ c κs. search needs) (λ c κs. search needs) (λ c. search needs) (λ c κs. search needs) (λ c. search needs) returns (λ c. search needs) returns-2)

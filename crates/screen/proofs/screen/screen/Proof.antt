@@ -28,12 +28,11 @@ returns-4 c =
 
 returns-5 : tie.Need-returns-5
 returns-5 c =
-    let args = c .before .before .before .before .before .before .before .before .before .before .before .before .before .before .before .before .before .before .args in
-    let judge = c .before .before .before .before .before .before .judge in
-    let settle = c .before .before .settle in
+    let args = c .before .before .before .before .before .before .before .before .before .before .before .before .before .before .args in
+    let judge = c .before .before .judge in
     late (args .mem .now) (args .first .0) (args .last .0) (args .marks .now)
-    (record { memory = c .before .before .before .before .before .before .before .before .before .before .before .before .before .before .before .if1 .left; order = c .before .before .before .before .before .before .before .before .before .before .before .before .if2 .left; size = omega arith; marks-size = omega arith })
-    (judge .result) (settle .result) (judge .last .1 .1 .0) (settle .last .1 .0) (judge .kept .1 .1 .0) (judge .ensures) (settle .ensures .0) (settle .ensures .1)
+    (record { memory = c .before .before .before .before .before .before .before .before .before .before .before .if1 .left; order = c .before .before .before .before .before .before .before .before .if2 .left; size = omega arith; marks-size = omega arith })
+    (judge .result) (judge .last .1 .1 .0) (judge .ensures .0) (judge .ensures .1)
 
 pub screen-spec : {M : Type 1} → statement M
 screen-spec =
@@ -45,7 +44,6 @@ screen-spec =
     (λ c. search needs)
     returns-3
     returns-4
-    (λ c κs. search needs)
     (λ c κs. search needs)
     (λ c. search needs)
     returns-5)
