@@ -20,5 +20,5 @@ mod screen;
 
 pub use cpu::{Cpu, HaltMode, Malformed, Registers};
 pub use memory::{Memory, WrongLength};
-pub use outcome::{Answer, Outcome, Refusal};
+pub use outcome::{Answer, InterruptType, Outcome, Refusal, ScreenRefusal};
 pub use screen::{screen, Refused, Screened};

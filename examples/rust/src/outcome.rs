@@ -3,67 +3,88 @@
 use crate::{blocks, cpu::Registers};
 use std::fmt;
 
-/// Why the core says no: "When the core says no" of docs/01-scope.md.
-#[derive(Clone, Copy, PartialEq, Eq, Debug)]
-#[allow(missing_docs)] // each case's words are in `Display`
-pub enum Refusal {
-    MemoryLength = 1,
-    LowBitsOfF = 2,
-    IllegalOpcode = 3,
-    WindowReversed = 4,
-    WindowTooLong = 5,
-    MarksLength = 6,
-    ForbiddenOpcode = 7,
-    PastTheEnd = 8,
-    FallsThrough = 9,
-    JumpUnmarked = 10,
+/// A kind of refusal: for each its case, the document's number and words ("When the core says no" of docs/01-scope.md).
+macro_rules! refusals {
+    ($(#[$about:meta])* $kind:ident { $($case:ident = $number:literal, $words:literal;)* }) => {
+        $(#[$about])*
+        #[derive(Clone, Copy, PartialEq, Eq, Debug)]
+        #[allow(missing_docs)] // each case's words are in `Display`
+        pub enum $kind {
+            $($case = $number,)*
+        }
+
+        impl $kind {
+            /// All of them, in the order of their numbers.
+            pub const ALL: &'static [$kind] = &[$($kind::$case,)*];
+
+            /// The document's number.
+            pub fn number(self) -> u8 {
+                self as u8
+            }
+
+            /// # Panics
+            /// At a number that the document did not have when this was written: the archive is newer than this crate.
+            pub(crate) fn numbered(number: u16) -> $kind {
+                match $kind::ALL.iter().find(|refusal| u16::from(refusal.number()) == number) {
+                    Some(refusal) => *refusal,
+                    None => panic!("libphkarotuk.a answers refusal {number}, which this crate does not know: take the crate and the archive from one revision"),
+                }
+            }
+        }
+
+        impl fmt::Display for $kind {
+            fn fmt(&self, to: &mut fmt::Formatter<'_>) -> fmt::Result {
+                let words = match self {
+                    $($kind::$case => $words,)*
+                };
+                write!(to, "refusal {}: {words}", self.number())
+            }
+        }
+    };
 }
 
-impl Refusal {
-    /// All of them, in the order of their numbers.
-    pub const ALL: [Refusal; 10] = [
-        Refusal::MemoryLength,
-        Refusal::LowBitsOfF,
-        Refusal::IllegalOpcode,
-        Refusal::WindowReversed,
-        Refusal::WindowTooLong,
-        Refusal::MarksLength,
-        Refusal::ForbiddenOpcode,
-        Refusal::PastTheEnd,
-        Refusal::FallsThrough,
-        Refusal::JumpUnmarked,
-    ];
+refusals! {
+    /// Why a step or a run says no.
+    Refusal {
+        MemoryLength = 1, "memory is not 65,536 bytes long";
+        LowBitsOfF = 2, "a low bit of F is set";
+        IllegalOpcode = 3, "illegal opcode";
+    }
+}
+
+refusals! {
+    /// Why the screen says no.
+    ScreenRefusal {
+        MemoryLength = 1, "memory is not 65,536 bytes long";
+        WindowReversed = 4, "the window's first address is above its last";
+        WindowTooLong = 5, "the window is too long";
+        MarksLength = 6, "the marks are not as long as the window";
+        ForbiddenOpcode = 7, "forbidden opcode";
+        PastTheEnd = 8, "an instruction runs past the window's end";
+        FallsThrough = 9, "the last instruction may fall through";
+        JumpUnmarked = 10, "a jump to an address that is no instruction start";
+    }
+}
+
+/// The five interrupts, by the names of the Rust; each goes to its vector.
+#[derive(Clone, Copy, PartialEq, Eq, Debug)]
+#[allow(missing_docs)] // the names say it
+pub enum InterruptType {
+    Vblank,
+    LcdStat,
+    Timer,
+    Serial,
+    Joypad,
+}
+
+impl InterruptType {
+    /// All of them, in the order of their numbers, 0 to 4.
+    pub const ALL: [InterruptType; 5] =
+        [InterruptType::Vblank, InterruptType::LcdStat, InterruptType::Timer, InterruptType::Serial, InterruptType::Joypad];
 
     /// The document's number.
     pub fn number(self) -> u8 {
         self as u8
-    }
-
-    /// # Panics
-    /// At a number that the document did not have when this was written: the archive is newer than this crate.
-    pub(crate) fn numbered(number: u16) -> Refusal {
-        match Refusal::ALL.into_iter().find(|refusal| u16::from(refusal.number()) == number) {
-            Some(refusal) => refusal,
-            None => panic!("libphkarotuk.a answers refusal {number}, which this crate does not know: take the crate and the archive from one revision"),
-        }
-    }
-}
-
-impl fmt::Display for Refusal {
-    fn fmt(&self, to: &mut fmt::Formatter<'_>) -> fmt::Result {
-        let words = match self {
-            Refusal::MemoryLength => "memory is not 65,536 bytes long",
-            Refusal::LowBitsOfF => "a low bit of F is set",
-            Refusal::IllegalOpcode => "illegal opcode",
-            Refusal::WindowReversed => "the window's first address is above its last",
-            Refusal::WindowTooLong => "the window is too long",
-            Refusal::MarksLength => "the marks are not as long as the window",
-            Refusal::ForbiddenOpcode => "forbidden opcode",
-            Refusal::PastTheEnd => "an instruction runs past the window's end",
-            Refusal::FallsThrough => "the last instruction may fall through",
-            Refusal::JumpUnmarked => "a jump to an address that is no instruction start",
-        };
-        write!(to, "refusal {}: {words}", self.number())
     }
 }
 
@@ -84,8 +105,8 @@ pub enum Outcome {
     Breakpoint(Registers),
     /// A run with budget 0.
     NothingRun,
-    /// Interrupt 0 to 4 was taken.
-    RunningInterrupt(u8),
+    /// An interrupt was taken.
+    RunningInterrupt(InterruptType),
     /// The core said no.
     Refused(Refusal),
 }
@@ -113,7 +134,7 @@ impl Answer {
             4 => Outcome::Stopped,
             5 => Outcome::Breakpoint(Registers::read(&block[8..20])),
             6 => Outcome::NothingRun,
-            number @ 8..=12 => Outcome::RunningInterrupt((number - 8) as u8),
+            number @ 8..=12 => Outcome::RunningInterrupt(InterruptType::ALL[usize::from(number - 8)]),
             number => Outcome::Refused(Refusal::numbered(number.wrapping_sub(16))),
         };
         Answer { outcome, steps: blocks::word(block, 2), m_cycles: blocks::count(block, 4) }

@@ -1,6 +1,6 @@
 //! The routine screen.
 
-use crate::{blocks, Refusal};
+use crate::{blocks, ScreenRefusal};
 use std::{error, fmt};
 
 /// A routine that passes: one mark for each byte of the window, `true` at an instruction start.
@@ -23,7 +23,7 @@ impl Screened {
 #[derive(Clone, Copy, PartialEq, Eq, Debug)]
 pub struct Refused {
     /// The document's reason.
-    pub refusal: Refusal,
+    pub refusal: ScreenRefusal,
     /// The address that it is about.
     pub address: Option<u16>,
 }
@@ -40,7 +40,7 @@ pub fn screen(mem: &[u8], first: u16, last: u16) -> Result<Screened, Refused> {
         return Ok(Screened { first, marks: marks.into_iter().map(|mark| mark == 1).collect() });
     }
     let address = (answer[1] == 1).then(|| blocks::word(&answer, 2));
-    Err(Refused { refusal: Refusal::numbered(number.into()), address })
+    Err(Refused { refusal: ScreenRefusal::numbered(number.into()), address })
 }
 
 impl fmt::Display for Refused {

@@ -1,6 +1,6 @@
 //! The demo's image (demo/label.lst): each routine's verdict as the listing announces it, the drawn line against one drawn here, and what the listing says that a technician sees.
 
-use phkarotuk::{screen, Cpu, Memory, Outcome, Refusal, Refused};
+use phkarotuk::{screen, Cpu, Memory, Outcome, Refused, ScreenRefusal};
 
 fn image() -> Memory {
     let path = concat!(env!("CARGO_MANIFEST_DIR"), "/../../demo/label.bin");
@@ -33,10 +33,10 @@ fn the_renderer_passes() {
 #[test]
 fn each_broken_routine_is_refused_as_announced() {
     let refused = |refusal, address| Err(Refused { refusal, address: Some(address) });
-    assert_eq!(screen(&image(), 0x0300, 0x030B), refused(Refusal::ForbiddenOpcode, 0x0306));
-    assert_eq!(screen(&image(), 0x7FF4, 0x7FFF), refused(Refusal::PastTheEnd, 0x7FFF));
-    assert_eq!(screen(&image(), 0x0320, 0x032A), refused(Refusal::FallsThrough, 0x0329));
-    assert_eq!(screen(&image(), 0x0340, 0x034C), refused(Refusal::JumpUnmarked, 0x034A));
+    assert_eq!(screen(&image(), 0x0300, 0x030B), refused(ScreenRefusal::ForbiddenOpcode, 0x0306));
+    assert_eq!(screen(&image(), 0x7FF4, 0x7FFF), refused(ScreenRefusal::PastTheEnd, 0x7FFF));
+    assert_eq!(screen(&image(), 0x0320, 0x032A), refused(ScreenRefusal::FallsThrough, 0x0329));
+    assert_eq!(screen(&image(), 0x0340, 0x034C), refused(ScreenRefusal::JumpUnmarked, 0x034A));
 }
 
 #[test]

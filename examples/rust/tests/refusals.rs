@@ -1,6 +1,6 @@
 //! "When the core says no" of docs/01-scope.md, and the malformed blocks of docs/DECISIONS.md: the number, and that nothing is changed.
 
-use phkarotuk::{blocks, screen, Cpu, Malformed, Memory, Outcome, Refusal, Refused, WrongLength};
+use phkarotuk::{blocks, screen, Cpu, Malformed, Memory, Outcome, Refusal, Refused, ScreenRefusal, WrongLength};
 
 /// A block of bytes that tells whether one of them was changed.
 fn pattern(size: usize) -> Vec<u8> {
@@ -18,7 +18,7 @@ fn memory_of_another_length() {
             assert_eq!((answer.outcome, answer.steps, answer.m_cycles), (Outcome::Refused(Refusal::MemoryLength), 0, 0));
             assert_eq!((cpu, memory), (before, pattern(size)));
         }
-        assert_eq!(screen(&pattern(size), 2, 1), Err(Refused { refusal: Refusal::MemoryLength, address: None }));
+        assert_eq!(screen(&pattern(size), 2, 1), Err(Refused { refusal: ScreenRefusal::MemoryLength, address: None }));
     }
 }
 

@@ -1,6 +1,6 @@
 //! "Rows to be worked" of docs/01-scope.md, on the linked core.
 
-use phkarotuk::{screen, Cpu, HaltMode, Memory, Outcome, Refusal, Refused};
+use phkarotuk::{screen, Cpu, HaltMode, InterruptType, Memory, Outcome, Refusal, Refused, ScreenRefusal};
 
 const Z: u8 = 0x80;
 const H: u8 = 0x20;
@@ -81,7 +81,19 @@ fn a_cancelled_interrupt() {
 fn an_interrupt_that_its_own_push_allows() {
     let (cpu, memory, answer) = dispatch(0x0000, 0x0134);
     assert_eq!((cpu.registers.pc, memory[0xFF0F]), (0x0040, 0x00));
-    assert_eq!(answer.outcome, Outcome::RunningInterrupt(0));
+    assert_eq!(answer.outcome, Outcome::RunningInterrupt(InterruptType::Vblank));
+}
+
+#[test]
+fn each_interrupt_goes_to_its_vector() {
+    for (interrupt, vector) in InterruptType::ALL.into_iter().zip([0x40, 0x48, 0x50, 0x58, 0x60]) {
+        let (mut cpu, mut memory) = at(0xC000, &[]);
+        cpu.ime = true;
+        memory[0xFFFF] = 0x1F;
+        memory[0xFF0F] = 1 << interrupt.number();
+        let answer = cpu.step(&mut memory);
+        assert_eq!((answer.outcome, cpu.registers.pc, memory[0xFF0F]), (Outcome::RunningInterrupt(interrupt), vector, 0));
+    }
 }
 
 #[test]
@@ -132,8 +144,8 @@ fn windows_that_pass() {
 
 #[test]
 fn windows_that_are_refused() {
-    use Refusal::{FallsThrough, ForbiddenOpcode, JumpUnmarked, PastTheEnd};
-    let rows: [(&[u8], Refusal); 5] =
+    use ScreenRefusal::{FallsThrough, ForbiddenOpcode, JumpUnmarked, PastTheEnd};
+    let rows: [(&[u8], ScreenRefusal); 5] =
         [(&[0x00], FallsThrough), (&[0x20, 0x00], FallsThrough), (&[0x18, 0xFF], JumpUnmarked), (&[0xCB], PastTheEnd), (&[0x76], ForbiddenOpcode)];
     for (bytes, refusal) in rows {
         let (_, memory) = at(0xC000, bytes);
@@ -148,7 +160,7 @@ fn the_longest_window() {
     memory[0x0FFF] = 0xC9; // 4,095 NOPs and a RET
     assert!(screen(&memory, 0x0000, 0x0FFF).is_ok());
     memory[0x1000] = 0xC9;
-    assert_eq!(screen(&memory, 0x0000, 0x1000), Err(Refused { refusal: Refusal::WindowTooLong, address: None }));
+    assert_eq!(screen(&memory, 0x0000, 0x1000), Err(Refused { refusal: ScreenRefusal::WindowTooLong, address: None }));
 }
 
 #[test]
