@@ -12,7 +12,7 @@ use Rattle.verdict.specs.declared.ScreenRefusal.{ScreenRefusal}
 use Rattle.verdict.specs.declared.ScreenRefusal.the-variants.{MemoryLength, WindowReversed, WindowTooLong, MarksLength}
 use Rattle.verdict.specs.declared.Verdict.the-variants.{Refused}
 use Rattle.routine.specs.Rules.{Rules}
-use Rattle.routine.specs.Screen.{verdict, Screened, marksAfter, untouched, screen}
+use Rattle.routine.specs.Screen.{verdict, Screened, marksAfter, untouched, longestWindow, screen}
 use Rattle.routine.proofs.Findings.{Shows}
 use Rattle.routine.proofs.Exactly.{verdict-shows}
 
@@ -26,32 +26,32 @@ module _ (m : List ℕ) (first last : ℕ) (marks : List ℕ) where
     wrong-memory : length m ≢ 65536 → Early MemoryLength
     -- 4: "window's first address above its last"
     reversed : length m ≡ 65536 → last < first → Early WindowReversed
-    -- 5: "window longer than 4,096 bytes"
-    too-long : length m ≡ 65536 → first ≤ last → 4096 < window first last → Early WindowTooLong
+    -- 5: "window longer than 4,096 bytes", which is longestWindow
+    too-long : length m ≡ 65536 → first ≤ last → longestWindow < window first last → Early WindowTooLong
     -- 6: "marks slice not as long as the window"
-    wrong-marks : length m ≡ 65536 → first ≤ last → window first last ≤ 4096 → length marks ≢ window first last → Early MarksLength
+    wrong-marks : length m ≡ 65536 → first ≤ last → window first last ≤ longestWindow → length marks ≢ window first last → Early MarksLength
 
   -- none of them refuses
   pub record Admitted : Type 0 where
     pub memory : length m ≡ 65536
     pub order : first ≤ last
-    pub size : window first last ≤ 4096
+    pub size : window first last ≤ longestWindow
     pub marks-size : length marks ≡ window first last
 
   pub early-or-admitted : ((r : ScreenRefusal) × Early r) ⊎ Admitted
   early-or-admitted = memory-test (eqb (length m) 65536) refl
     where
-      marks-test : length m ≡ 65536 → first ≤ last → window first last ≤ 4096 → (b : Bool) → eqb (length marks) (window first last) ≡ b → ((r : ScreenRefusal) × Early r) ⊎ Admitted
+      marks-test : length m ≡ 65536 → first ≤ last → window first last ≤ longestWindow → (b : Bool) → eqb (length marks) (window first last) ≡ b → ((r : ScreenRefusal) × Early r) ⊎ Admitted
       marks-test k o z true e = inr (record { memory = k; order = o; size = z; marks-size = eqb-true _ _ e })
       marks-test k o z false e = inl (MarksLength, wrong-marks k o z (eqb-false _ _ e))
 
-      size-test : length m ≡ 65536 → first ≤ last → (b : Bool) → ltb 4096 (window first last) ≡ b → ((r : ScreenRefusal) × Early r) ⊎ Admitted
-      size-test k o true e = inl (WindowTooLong, too-long k o (ltb-true 4096 _ e))
-      size-test k o false e = marks-test k o (ltb-false 4096 _ e) (eqb (length marks) (window first last)) refl
+      size-test : length m ≡ 65536 → first ≤ last → (b : Bool) → ltb longestWindow (window first last) ≡ b → ((r : ScreenRefusal) × Early r) ⊎ Admitted
+      size-test k o true e = inl (WindowTooLong, too-long k o (ltb-true longestWindow _ e))
+      size-test k o false e = marks-test k o (ltb-false longestWindow _ e) (eqb (length marks) (window first last)) refl
 
       order-test : length m ≡ 65536 → (b : Bool) → ltb last first ≡ b → ((r : ScreenRefusal) × Early r) ⊎ Admitted
       order-test k true e = inl (WindowReversed, reversed k (ltb-true _ _ e))
-      order-test k false e = size-test k (ltb-false _ _ e) (ltb 4096 (window first last)) refl
+      order-test k false e = size-test k (ltb-false _ _ e) (ltb longestWindow (window first last)) refl
 
       memory-test : (b : Bool) → eqb (length m) 65536 ≡ b → ((r : ScreenRefusal) × Early r) ⊎ Admitted
       memory-test true e = order-test (eqb-true _ _ e) (ltb last first) refl
@@ -84,12 +84,12 @@ module _ (m : List ℕ) (first last : ℕ) (marks : List ℕ) where
       by (inl early) = subst Early (same (early .0) (ap (λ (s : Screened). s .verdict) (refuses (early .1)))) (early .1)
       by (inr ok) = absurd (subst (Shows m first (first + window first last) (Rules m first (first + window first last))) (never ok) (verdict-shows m first (window first last)))
 
-  -- "Lengths 4,096 and 4,097 either side of 5"
-  pub never-5 : window first last ≡ 4096 → screen m first last marks .verdict ≡ Refused WindowTooLong → ⊥
+  -- "Lengths 4,096 and 4,097 either side of 5": the longest window, and one byte more
+  pub never-5 : window first last ≡ longestWindow → screen m first last marks .verdict ≡ Refused WindowTooLong → ⊥
   never-5 w e = too-short (refused WindowTooLong e)
     where
       too-short : Early WindowTooLong → ⊥
       too-short (too-long k o z) = omega arith
 
-  pub always-5 : length m ≡ 65536 → first ≤ last → window first last ≡ 4097 → screen m first last marks ≡ untouched WindowTooLong marks
+  pub always-5 : length m ≡ 65536 → first ≤ last → window first last ≡ longestWindow + 1 → screen m first last marks ≡ untouched WindowTooLong marks
   always-5 k o w = refuses (too-long k o (omega arith))

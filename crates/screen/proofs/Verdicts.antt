@@ -28,8 +28,8 @@ alone (Refused r) = refl
 alone (RefusedAt r a) = refl
 
 -- of two findings the second decides where the first passes
-pub second-decides : (v w : Verdict) → v ≡ Passes → w ≡ firstOf (v ∷ w ∷ [])
-second-decides v w passed = alone w ∙ rw passed
+pub second-decides : {r : Verdict} (v w : Verdict) → v ≡ Passes → r ≡ w → r ≡ firstOf (v ∷ w ∷ [])
+second-decides v w passed told = told ∙ alone w ∙ rw passed
 
 -- and else the first
 pub found-decides : (v w : Verdict) → (v ≡ Passes → ⊥) → v ≡ firstOf (v ∷ w ∷ [])

@@ -1,2 +1,3 @@
 -- The rows, computed.
 pub mod AllRows
+pub mod Lengths

@@ -50,3 +50,10 @@ rows =
     ∷ passes (0xc9 ∷ []) (1 ∷ [])
     ∷ passes (0x18 ∷ 0xfe ∷ []) (1 ∷ 0 ∷ [])
     ∷ []
+
+-- "Lengths 4,096 and 4,097 either side of 5."
+abbrev pub letIn : ℕ
+letIn = 4096
+
+abbrev pub tooLong : ℕ
+tooLong = 4097

@@ -1,5 +1,4 @@
 -- The next test decides, or what was found before.
-use mathlib.Core.Path.{_∙_}
 use borrow.Author.Needs.{needs}
 use lib.ListN.{length}
 use Rattle.routine.specs.Screen.{isMarked, scanFor}
@@ -10,8 +9,7 @@ use Rattle.screen.proofs.screen.then.Tie as tie
 returns : tie.Need-returns
 returns c =
     let args = c .before .before .before .before .before .args in
-    c .scan .ensures
-    ∙ second-decides (args .found) (scanFor (args .mem .now) (isMarked (args .marks .now) (args .first .0)) (args .first .0) (length (args .marks .now)) (args .test)) (passes (args .found) (c .before .before .match .keys1))
+    second-decides (args .found) (scanFor (args .mem .now) (isMarked (args .marks .now) (args .first .0)) (args .first .0) (length (args .marks .now)) (args .test)) (passes (args .found) (c .before .before .match .keys1)) (c .scan .ensures)
 
 returns-2 : tie.Need-returns-2
 returns-2 c =
