@@ -1,4 +1,3 @@
 -- Every opcode's length and class, by a computed test.
 pub mod Arms
 pub mod Opcodes
-pub mod Classes

@@ -5,7 +5,7 @@ use Prim.Native.Nat.{ℕ}
 use native.Mathlib.Omega.{arith}
 use borrow.Author.Needs.{needs}
 use Rattle.routine.specs.Screen.{isMarked}
-use Rattle.shapes.proofs.Classes.{jump-test}
+use Rattle.targets.proofs.JumpArms.{jump-test}
 use Rattle.targets.proofs.lands.Statement.{statement}
 use Rattle.targets.proofs.lands.Tie as tie
 

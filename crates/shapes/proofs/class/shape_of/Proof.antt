@@ -1,6 +1,6 @@
--- Each arm is right: the single numbers in the order of the arms, then the ranges of refusal 3's opcodes, then the rest.
+-- Each arm is right: the single numbers in the order of the arms, then the ranges.
 use native.Mathlib.Omega.{arith}
-use Rattle.shapes.proofs.Opcodes.{of-numbers, of-range}
+use Rattle.shapes.proofs.Opcodes.{of-numbers, in-range}
 use Rattle.shapes.proofs.class.shape_of.Statement.{statement}
 use Rattle.shapes.proofs.class.shape_of.Tie as tie
 
@@ -23,9 +23,19 @@ shape-of-spec =
     (λ c. of-numbers 12 (omega arith) (c .before .args .opcode) (omega arith) (c .match .keys13))
     (λ c. of-numbers 13 (omega arith) (c .before .args .opcode) (omega arith) (c .match .keys14))
     (λ c. of-numbers 14 (omega arith) (c .before .args .opcode) (omega arith) (c .match .keys15))
-    (λ c. of-range 1 (omega arith) (c .before .before .before .args .opcode) (omega arith) (omega arith) (omega arith) (c .before .before .match .rest))
-    (λ c. of-range 3 (omega arith) (c .before .before .before .before .before .args .opcode) (omega arith) (omega arith) (omega arith) (c .before .before .before .before .match .rest))
-    (λ c. of-range 5 (omega arith) (c .before .before .before .before .before .before .args .opcode) (omega arith) (omega arith) (omega arith) (c .before .before .before .before .before .match .rest))
-    (λ c. of-range 0 (omega arith) (c .before .before .args .opcode) (omega arith) (omega arith) (omega arith) (c .before .match .rest))
-    (λ c. of-range 2 (omega arith) (c .before .before .before .before .args .opcode) (omega arith) (omega arith) (omega arith) (c .before .before .before .match .rest))
-    (λ c. of-range 4 (omega arith) (c .before .before .before .before .before .before .args .opcode) (omega arith) (omega arith) (omega arith) (c .before .before .before .before .before .match .rest)))
+    (λ c. of-numbers 15 (omega arith) (c .before .args .opcode) (omega arith) (c .match .keys16))
+    (λ c. of-numbers 16 (omega arith) (c .before .args .opcode) (omega arith) (c .match .keys17))
+    (λ c. of-numbers 17 (omega arith) (c .before .args .opcode) (omega arith) (c .match .keys18))
+    (λ c. of-numbers 18 (omega arith) (c .before .args .opcode) (omega arith) (c .match .keys19))
+    (λ c. of-numbers 19 (omega arith) (c .before .args .opcode) (omega arith) (c .match .keys20))
+    (λ c. of-numbers 20 (omega arith) (c .before .args .opcode) (omega arith) (c .match .keys21))
+    (λ c. in-range (c .before .before .before .before .before .before .args .opcode) (omega arith) (c .before .before .before .before .before .match .rest))
+    (λ c. in-range (c .before .before .before .before .before .before .args .opcode) (omega arith) (c .before .before .before .before .before .match .rest))
+    (λ c. in-range (c .before .before .before .before .args .opcode) (omega arith) (c .before .before .before .match .rest))
+    (λ c. in-range (c .before .before .before .before .before .before .args .opcode) (omega arith) (c .before .before .before .before .before .match .rest))
+    (λ c. in-range (c .before .before .before .args .opcode) (omega arith) (c .before .before .match .rest))
+    (λ c. in-range (c .before .before .before .before .before .args .opcode) (omega arith) (c .before .before .before .before .match .rest))
+    (λ c. in-range (c .before .before .before .args .opcode) (omega arith) (c .before .before .match .rest))
+    (λ c. in-range (c .before .before .before .before .before .args .opcode) (omega arith) (c .before .before .before .before .match .rest))
+    (λ c. in-range (c .before .before .before .before .before .before .args .opcode) (omega arith) (c .before .before .before .before .before .match .rest))
+    (λ c. in-range (c .before .before .before .before .args .opcode) (omega arith) (c .before .before .before .match .rest)))
