@@ -13,7 +13,7 @@ use Rattle.commandline.specs.declared.grammar.Command.the-variants as co
 use Rattle.commandline.specs.declared.grammar.Part.{Part}
 use Rattle.commandline.specs.declared.grammar.Part.the-variants.{Image, First, Last, At, State, Pc, Sp, Steps, Out, Marks, Map, Trace, Help}
 use Rattle.commandline.proofs.grammar.Part.{the-type}
-use Rattle.commandline.specs.Grammar.{place, isIn, optionsOf, allows}
+use Rattle.commandline.specs.Grammar.{place, parts, isIn, optionsOf, allows}
 
 -- the number by which a match tells a part is its place
 placed : (p : Part) → tagOf the-type p ≡ place p
@@ -65,7 +65,7 @@ without l n zero = []
 without l n (suc count) = choose (isIn n l) (without l (n + 1) count) (n ∷ without l (n + 1) count)
 
 abbrev pub others : Command → List ℕ
-others c = without (optionsOf c) 0 13
+others c = without (optionsOf c) 0 parts
 
 none-named : (c : Command) → map (λ (n : ℕ). isIn n (optionsOf c)) (others c) ≡ map (λ (n : ℕ). false) (others c)
 none-named Screen = refl

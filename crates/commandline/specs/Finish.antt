@@ -14,7 +14,8 @@ use Rattle.commandline.specs.declared.line.Stage.the-variants.{Start, Ta
 use Rattle.commandline.specs.declared.line.Line.{Line}
 use Rattle.commandline.specs.declared.finish.Asked.{Asked}
 use Rattle.commandline.specs.declared.finish.Asked.the-variants.{Help, Obey, Mistaken}
-use Rattle.commandline.specs.Line.{saidOf, isGiven, addressOr}
+use Rattle.commandline.specs.Given.{isGiven, addressOr}
+use Rattle.commandline.specs.Line.{saidOf}
 
 -- the window is the wrong way round: LAST is below FIRST
 unfoldable pub ordered : Line → Command → Asked

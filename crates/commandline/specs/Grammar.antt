@@ -52,6 +52,9 @@ place part.Map = 10
 place part.Trace = 11
 place part.Help = 12
 
+abbrev pub parts : ℕ
+parts = 13
+
 abbrev pub isIn : ℕ → List Part → Bool
 isIn n [] = false
 isIn n (q ∷ qs) = eqb (place q) n || isIn n qs

@@ -24,13 +24,14 @@ use Rattle.commandline.specs.declared.line.Mistake.{Mistake}
 use Rattle.commandline.specs.declared.line.Mistake.the-variants.{UnknownCommand, UnknownOption, NotHere, Twice, TooMany, UnknownPower, BadNumber, AddressTooLarge}
 use Rattle.commandline.specs.declared.line.Stage.{Stage}
 use Rattle.commandline.specs.declared.line.Stage.the-variants.{Start, Takes, Awaits, Wrong}
-use Rattle.commandline.specs.declared.line.Given.{Given}
-use Rattle.commandline.specs.declared.line.Given.the-variants as given
+use Rattle.commandline.specs.declared.given.Given.{Given}
+use Rattle.commandline.specs.declared.given.Given.the-variants as given
 use Rattle.commandline.specs.declared.line.Line.{Line}
 use Rattle.commandline.specs.declared.take.Read.{Read}
 use Rattle.commandline.specs.declared.take.Read.the-variants.{As, Not}
 use Rattle.commandline.specs.Grammar.{plainOf, allows, kindOf, isAlone, commandNamed, optionNamed, powerNamed}
-use Rattle.commandline.specs.Line.{saidOf, isGiven, withStage, kept}
+use Rattle.commandline.specs.Given.{isGiven}
+use Rattle.commandline.specs.Line.{saidOf, withStage, kept}
 
 unfoldable pub asNumber : Part → ℕ → Number → Read
 asNumber p index (number.Is n) = As (given.Number n)

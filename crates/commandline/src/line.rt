@@ -1,8 +1,15 @@
 // What the words of a command line have said so far.
 ghost use mathlib.Core.Path.{_≡_};
 ghost use Prim.Native.Nat.{_<_};
-ghost use Rattle.commandline.specs.Grammar.{place};
-ghost use Rattle.commandline.specs.Line.{empty, saidOf, isGiven, wordOr, addressOr, numberOr, powerOr, withStage, kept};
+ghost use Rattle.commandline.specs.Grammar.{place, parts};
+ghost use Rattle.commandline.specs.Given.{isGiven, wordOr, addressOr, numberOr, powerOr};
+ghost use Rattle.commandline.specs.Line.{empty, saidOf, withStage, kept};
+use crate::given::Given;
+use crate::given::address_or;
+use crate::given::is_given;
+use crate::given::number_or;
+use crate::given::power_or;
+use crate::given::word_or;
 use crate::grammar::Command;
 use crate::grammar::Part;
 use crate::grammar::Plain;
@@ -34,29 +41,22 @@ pub enum Stage {
     Wrong(Mistake),
 }
 
-// What was said of a part. A path is kept by its word's index.
-pub enum Given {
-    Nothing,
-    Alone,
-    Word(usize),
-    Address(u16),
-    Number(u64),
-    Power(Power),
-}
+// How many parts there are.
+const PARTS: usize = 13;
 
-// The prover knows arrays of structs in a struct, and none of enums.
+// An array in a struct holds structs, for the prover, and no enums.
 pub struct Cell {
     pub given: Given,
 }
 
 pub struct Line {
     pub stage: Stage,
-    cells: [Cell; 13],
+    cells: [Cell; PARTS],
 }
 
 // Where a part is kept.
 fn place(part: Part) -> usize
-    ensures { λ r. ⌜ (r ≡ place part) × (r < 13) ⌝ }
+    ensures { λ r. ⌜ (r ≡ place part) × (r < parts) ⌝ }
 {
     match part {
         Part::Image => 0,
@@ -75,71 +75,6 @@ fn place(part: Part) -> usize
     }
 }
 
-fn is_given(given: Given) -> bool
-    ensures { λ r. ⌜ r ≡ isGiven given ⌝ }
-{
-    match given {
-        Given::Nothing => false,
-        Given::Alone => true,
-        Given::Word(_) => true,
-        Given::Address(_) => true,
-        Given::Number(_) => true,
-        Given::Power(_) => true,
-    }
-}
-
-fn word_or(given: Given, other: usize) -> usize
-    ensures { λ r. ⌜ r ≡ wordOr given other ⌝ }
-{
-    match given {
-        Given::Nothing => other,
-        Given::Alone => other,
-        Given::Word(x) => x,
-        Given::Address(_) => other,
-        Given::Number(_) => other,
-        Given::Power(_) => other,
-    }
-}
-
-fn address_or(given: Given, other: u16) -> u16
-    ensures { λ r. ⌜ r ≡ addressOr given other ⌝ }
-{
-    match given {
-        Given::Nothing => other,
-        Given::Alone => other,
-        Given::Word(_) => other,
-        Given::Address(x) => x,
-        Given::Number(_) => other,
-        Given::Power(_) => other,
-    }
-}
-
-fn number_or(given: Given, other: u64) -> u64
-    ensures { λ r. ⌜ r ≡ numberOr given other ⌝ }
-{
-    match given {
-        Given::Nothing => other,
-        Given::Alone => other,
-        Given::Word(_) => other,
-        Given::Address(_) => other,
-        Given::Number(x) => x,
-        Given::Power(_) => other,
-    }
-}
-
-fn power_or(given: Given, other: Power) -> Power
-    ensures { λ r. ⌜ r ≡ powerOr given other ⌝ }
-{
-    match given {
-        Given::Nothing => other,
-        Given::Alone => other,
-        Given::Word(_) => other,
-        Given::Address(_) => other,
-        Given::Number(_) => other,
-        Given::Power(x) => x,
-    }
-}
-
 impl Line {
     pub fn new() -> Self
         ensures { λ r. ⌜ r ≡ empty ⌝ }
@@ -147,7 +82,7 @@ impl Line {
         let none = Cell {
             given: Given::Nothing,
         };
-        let cells = [none; 13];
+        let cells = [none; PARTS];
         Line {
             stage: Stage::Start,
             cells: cells,

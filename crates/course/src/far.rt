@@ -1,4 +1,8 @@
 // Where a run starts, by what the command line says, and how far it has come.
+ghost use mathlib.Core.Path.{_≡_};
+ghost use Prim.Native.Nat.{_%_};
+ghost use Rattle.definition.specs.Run.{stopsLast};
+ghost use Rattle.course.specs.Start.{atPowerOn, started, budget};
 use commandline::grammar::Part;
 use commandline::grammar::Power;
 use commandline::line::Line;
@@ -15,7 +19,9 @@ pub struct Far {
     pub cycles: u64,
 }
 
-fn at_power_on(power: Power) -> Cpu {
+fn at_power_on(power: Power) -> Cpu
+    ensures { λ r. ⌜ r ≡ atPowerOn power ⌝ }
+{
     match power {
         Power::Dmg => Cpu::dmg(),
         Power::Cgb => Cpu::cgb(),
@@ -24,7 +30,9 @@ fn at_power_on(power: Power) -> Cpu {
     }
 }
 
-pub fn started(line: Line) -> Cpu {
+pub fn started(line: Line) -> Cpu
+    ensures { λ r. ⌜ r ≡ started line ⌝ }
+{
     let c = at_power_on(line.power(Part::State, Power::Dmg));
     let mut r = c.registers;
     let pc = r.pc;
@@ -37,16 +45,23 @@ pub fn started(line: Line) -> Cpu {
 }
 
 // A run that has come so far goes no further.
-pub fn over(far: Far) -> bool {
+pub fn over(far: Far) -> bool
+    ensures { λ r. ⌜ r ≡ stopsLast (far .last) ⌝ }
+{
     let last = far.last;
     stopped(last)
 }
 
 // How many steps were asked for.
-pub fn budget(line: Line) -> u64 {
+pub fn budget(line: Line) -> u64
+    ensures { λ r. ⌜ r ≡ budget line ⌝ }
+{
     line.number(Part::Steps, 65535)
 }
 
-pub fn rest(steps: u64) -> u16 {
+// What whole runs of 65,535 steps leave over.
+pub fn rest(steps: u64) -> u16
+    ensures { λ r. ⌜ r ≡ steps % 65535 ⌝ }
+{
     (steps % 65535) as u16
 }
