@@ -8,8 +8,6 @@ use types.Run.{OneOf}
 use denote.Enum.Declared.{tagOf}
 use Rattle.text.specs.Page.{choose}
 use Rattle.commandline.specs.declared.grammar.Command.{Command}
-use Rattle.commandline.specs.declared.grammar.Command.the-variants.{Screen, Run, Step, Version}
-use Rattle.commandline.specs.declared.grammar.Command.the-variants as command
 use Rattle.commandline.specs.declared.grammar.Part.{Part}
 use Rattle.commandline.specs.declared.grammar.Part.the-variants.{Image, First, Last, At, State, Pc, Sp, Steps, Out, Marks, Map, Trace, Help}
 use Rattle.commandline.proofs.grammar.Part.{the-type}
@@ -49,15 +47,8 @@ answers c b ks right d told p one =
 abbrev pub named : Command → List ℕ
 named c = map place (optionsOf c)
 
-all-named : (c : Command) → map (λ (n : ℕ). isIn n (optionsOf c)) (named c) ≡ map (λ (n : ℕ). true) (named c)
-all-named Screen = refl
-all-named Run = refl
-all-named Step = refl
-all-named Version = refl
-all-named command.Help = refl
-
-pub taken : (c d : Command) → d ≡ c → (p : Part) → OneOf (named c) (tagOf the-type p) → true ≡ allows d p
-taken c = answers c true (named c) (all-named c)
+pub taken : (c : Command) → map (λ (n : ℕ). isIn n (optionsOf c)) (named c) ≡ map (λ (n : ℕ). true) (named c) → (d : Command) → d ≡ c → (p : Part) → OneOf (named c) (tagOf the-type p) → true ≡ allows d p
+taken c = answers c true (named c)
 
 -- the arm for all other parts
 abbrev without : List Part → ℕ → ℕ → List ℕ
@@ -67,12 +58,5 @@ without l n (suc count) = choose (isIn n l) (without l (n + 1) count) (n ∷ wit
 abbrev pub others : Command → List ℕ
 others c = without (optionsOf c) 0 parts
 
-none-named : (c : Command) → map (λ (n : ℕ). isIn n (optionsOf c)) (others c) ≡ map (λ (n : ℕ). false) (others c)
-none-named Screen = refl
-none-named Run = refl
-none-named Step = refl
-none-named Version = refl
-none-named command.Help = refl
-
-pub refused : (c d : Command) → d ≡ c → (p : Part) → OneOf (others c) (tagOf the-type p) → false ≡ allows d p
-refused c = answers c false (others c) (none-named c)
+pub refused : (c : Command) → map (λ (n : ℕ). isIn n (optionsOf c)) (others c) ≡ map (λ (n : ℕ). false) (others c) → (d : Command) → d ≡ c → (p : Part) → OneOf (others c) (tagOf the-type p) → false ≡ allows d p
+refused c = answers c false (others c)

@@ -1,4 +1,4 @@
--- Each way through, by what it found.
+-- An x after the 0, or a digit.
 use Rattle.number.specs.Number.{afterZero}
 use borrow.Author.Needs.{needs}
 use Rattle.number.proofs.after_zero.Statement.{statement}

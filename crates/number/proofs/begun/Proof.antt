@@ -1,4 +1,4 @@
--- Each way through, by what it found.
+-- A 0 in front, or another byte.
 use Rattle.number.specs.Number.{begun}
 use borrow.Author.Needs.{needs}
 use Rattle.number.proofs.begun.Statement.{statement}

@@ -1,4 +1,4 @@
--- Each way through, by what it found.
+-- A number that was too large, one that becomes so, and one that fits.
 use Rattle.number.specs.Number.{grown}
 use borrow.Author.Needs.{needs}
 use Rattle.number.proofs.grown.Statement.{statement}

@@ -1,4 +1,4 @@
--- Each way through, by what it found.
+-- A number that fits, and one that is too large.
 use Rattle.number.specs.Number.{hexadecimal}
 use borrow.Author.Needs.{needs}
 use Rattle.number.proofs.hexadecimal.Statement.{statement}

@@ -1,4 +1,4 @@
--- Each way through, by what it found.
+-- Each kind of digit.
 use Rattle.number.specs.Number.{readHex}
 use borrow.Author.Needs.{needs}
 use Rattle.number.proofs.read_hex.Statement.{statement}

@@ -1,4 +1,4 @@
--- Each way through, by what it found.
+-- Each number of plain words that are left.
 use Rattle.commandline.specs.Finish.{filled}
 use borrow.Author.Needs.{needs}
 use Rattle.commandline.proofs.finish.filled.Statement.{statement}

@@ -1,4 +1,4 @@
--- Each way through, by what it found.
+-- Help is asked for, or not.
 use borrow.Author.Needs.{needs}
 use Rattle.commandline.proofs.finish.or_help.Statement.{statement}
 use Rattle.commandline.proofs.finish.or_help.Tie as tie

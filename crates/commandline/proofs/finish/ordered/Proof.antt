@@ -1,4 +1,4 @@
--- Each way through, by what it found.
+-- The window is the wrong way round, or not.
 use Rattle.commandline.specs.Finish.{ordered}
 use borrow.Author.Needs.{needs}
 use Rattle.commandline.proofs.finish.ordered.Statement.{statement}

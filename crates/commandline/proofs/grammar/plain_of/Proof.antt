@@ -1,16 +1,15 @@
--- Each way through, by what it found.
+-- Each command, by its constructor.
 use borrow.Author.Needs.{needs}
 use Rattle.commandline.proofs.grammar.plain_of.Statement.{statement}
 use Rattle.commandline.proofs.grammar.plain_of.Tie as tie
 
-returns : tie.Need-returns
-returns c = simp (c .enum-told .given .1)
-
-returns-2 : tie.Need-returns-2
-returns-2 c = simp (c .enum-told2 .given .1)
-
-returns-3 : tie.Need-returns-3
-returns-3 c = simp (c .enum-told3 .given .1)
-
 pub plain-of-spec : {M : Type 1} → statement M
-plain-of-spec = tie.close (tie.spec (λ c. search needs) (λ c. search needs) (λ c. search needs) (λ c. search needs) (λ c. search needs) returns returns-2 returns-3 (λ c. search needs) (λ c. search needs))
+plain-of-spec =
+    tie.close
+    (tie.spec
+    (λ c. search needs) (λ c. search needs) (λ c. search needs) (λ c. search needs) (λ c. search needs)
+    (λ c. simp (c .enum-told .given .1))
+    (λ c. simp (c .enum-told2 .given .1))
+    (λ c. simp (c .enum-told3 .given .1))
+    (λ c. search needs)
+    (λ c. search needs))

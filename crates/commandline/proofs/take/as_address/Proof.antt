@@ -1,4 +1,4 @@
--- Each way through, by what it found.
+-- A number that is tested on, and a fault.
 use Rattle.commandline.specs.Take.{asAddress}
 use borrow.Author.Needs.{needs}
 use Rattle.commandline.proofs.take.as_address.Statement.{statement}

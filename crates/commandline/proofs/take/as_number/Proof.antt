@@ -1,4 +1,4 @@
--- Each way through, by what it found.
+-- A number, and a fault.
 use Rattle.commandline.specs.Take.{asNumber}
 use borrow.Author.Needs.{needs}
 use Rattle.commandline.proofs.take.as_number.Statement.{statement}

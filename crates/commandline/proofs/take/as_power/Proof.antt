@@ -1,4 +1,4 @@
--- Each way through, by what it found.
+-- A state that has a name, and a word that has none.
 use Rattle.commandline.specs.Take.{asPower}
 use borrow.Author.Needs.{needs}
 use Rattle.commandline.proofs.take.as_power.Statement.{statement}

@@ -1,4 +1,4 @@
--- Each way through, by what it found.
+-- The test shows that the number fits an address.
 use borrow.Author.Needs.{needs}
 use Rattle.commandline.proofs.take.in_range.Statement.{statement}
 use Rattle.commandline.proofs.take.in_range.Tie as tie

@@ -1,4 +1,4 @@
--- Each way through, by what it found.
+-- The test shows that there is a first byte.
 use borrow.Author.Needs.{needs}
 use Rattle.commandline.proofs.take.is_dashed.Statement.{statement}
 use Rattle.commandline.proofs.take.is_dashed.Tie as tie

@@ -1,4 +1,4 @@
--- Each way through, by what it found.
+-- A word that names a command, and one that does not.
 use Rattle.commandline.specs.Take.{takeCommand}
 use borrow.Author.Needs.{needs}
 use Rattle.commandline.proofs.take.take_command.Statement.{statement}

@@ -1,4 +1,4 @@
--- Each way through, by what it found.
+-- A word that begins with -, and one that does not.
 use Rattle.commandline.specs.Take.{takeNext}
 use borrow.Author.Needs.{needs}
 use Rattle.commandline.proofs.take.take_next.Statement.{statement}

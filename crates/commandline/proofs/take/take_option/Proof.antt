@@ -1,4 +1,4 @@
--- Each way through, by what it found.
+-- Each way through the tests, by what they found.
 use Rattle.commandline.specs.Take.{takeOption}
 use borrow.Author.Needs.{needs}
 use Rattle.commandline.proofs.take.take_option.Statement.{statement}

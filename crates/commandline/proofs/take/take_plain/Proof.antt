@@ -1,4 +1,4 @@
--- Each way through, by what it found.
+-- Each number of plain words that are left.
 use Rattle.commandline.specs.Take.{takePlain}
 use borrow.Author.Needs.{needs}
 use Rattle.commandline.proofs.take.take_plain.Statement.{statement}

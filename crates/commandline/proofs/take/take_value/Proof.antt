@@ -1,4 +1,4 @@
--- Each way through, by what it found.
+-- A value, and a mistake.
 use Rattle.commandline.specs.Take.{keeps}
 use borrow.Author.Needs.{needs}
 use Rattle.commandline.proofs.take.take_value.Statement.{statement}

@@ -1,4 +1,4 @@
--- Each way through, by what it found.
+-- Each kind, by its constructor.
 use Rattle.commandline.specs.Take.{valueIn}
 use borrow.Author.Needs.{needs}
 use Rattle.commandline.proofs.take.value_in.Statement.{statement}

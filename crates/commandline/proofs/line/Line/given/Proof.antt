@@ -1,4 +1,4 @@
--- Each way through, by what it found.
+-- The cell at the part's place.
 use borrow.Author.Needs.{needs}
 use Rattle.commandline.proofs.line.Line.given.Statement.{statement}
 use Rattle.commandline.proofs.line.Line.given.Tie as tie

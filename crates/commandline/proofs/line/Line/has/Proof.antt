@@ -1,4 +1,4 @@
--- Each way through, by what it found.
+-- Whether anything was said of the part.
 use borrow.Author.Needs.{needs}
 use Rattle.commandline.proofs.line.Line.has.Statement.{statement}
 use Rattle.commandline.proofs.line.Line.has.Tie as tie

@@ -1,4 +1,4 @@
--- Each way through, by what it found.
+-- The cell at the part's place is the new one.
 use borrow.Author.Needs.{needs}
 use Rattle.commandline.proofs.line.Line.kept.Statement.{statement}
 use Rattle.commandline.proofs.line.Line.kept.Tie as tie
