@@ -1,5 +1,7 @@
 // How far a run is, while it goes on, and how it ended: its last outcome, the registers, what changed in memory, the image that is saved.
 use crate::far::Far;
+use commandline::grammar::Part;
+use commandline::line::Line;
 use saying::said;
 use sentences::after;
 use sentences::byte;
@@ -53,11 +55,11 @@ pub fn print_all_changes(old: &[u8], mem: &[u8]) {
 }
 
 // The memory as it stands at the end, if --out was given.
-pub fn saved(slot: u64, mem: &[u8], tells: bool, status: u8) -> u8 {
-    if slot == 0 {
+pub fn saved(line: Line, mem: &[u8], tells: bool, status: u8) -> u8 {
+    if !line.has(Part::Out) {
         return status;
     }
-    if files::save(slot, mem, tells) {
+    if files::save(line, mem, tells) {
         status
     } else {
         said::REFUSED

@@ -1,17 +1,15 @@
 // Where a run starts, by what the command line says, and how far it has come.
+ghost use mathlib.Core.Path.{_≡_};
+ghost use Prim.Native.Nat.{_%_};
+ghost use Rattle.definition.specs.Run.{stopsLast};
+ghost use Rattle.course.specs.Start.{atPowerOn, started, budget};
+use commandline::grammar::Part;
+use commandline::grammar::Power;
+use commandline::line::Line;
 use ending::stopped;
-use files::number;
-use line::CGB;
-use line::CGB_DMG;
-use line::Line;
-use line::PC;
-use line::SP;
-use line::STATE;
-use line::ZERO;
 use outcome::LastOutcome;
 use sm83::Addr;
 use sm83::Cpu;
-use sm83::CpuRegisters;
 
 // How far a run has come.
 pub struct Far {
@@ -21,53 +19,49 @@ pub struct Far {
     pub cycles: u64,
 }
 
-fn at_power_on(state: u64) -> Cpu {
-    if state == (CGB as u64) {
-        return Cpu::cgb();
+fn at_power_on(power: Power) -> Cpu
+    ensures { λ r. ⌜ r ≡ atPowerOn power ⌝ }
+{
+    match power {
+        Power::Dmg => Cpu::dmg(),
+        Power::Cgb => Cpu::cgb(),
+        Power::CgbDmg => Cpu::cgb_dmg(),
+        Power::Zero => Cpu::new(true),
     }
-    if state == (CGB_DMG as u64) {
-        return Cpu::cgb_dmg();
-    }
-    if state == (ZERO as u64) {
-        return Cpu::new(true);
-    }
-    Cpu::dmg()
 }
 
-fn with_pc(r: CpuRegisters, slot: u64) -> CpuRegisters {
-    let mut x = r;
-    if slot != 0 {
-        let a = Addr(number(slot));
-        x.pc = a;
-    }
-    x
-}
-
-fn with_sp(r: CpuRegisters, slot: u64) -> CpuRegisters {
-    let mut x = r;
-    if slot != 0 {
-        let a = Addr(number(slot));
-        x.sp = a;
-    }
-    x
-}
-
-pub fn started(line: Line) -> Cpu {
-    let c = at_power_on(line.slot_of(STATE));
-    let r = with_sp(with_pc(c.registers, line.slot_of(PC)), line.slot_of(SP));
+pub fn started(line: Line) -> Cpu
+    ensures { λ r. ⌜ r ≡ started line ⌝ }
+{
+    let c = at_power_on(line.power(Part::State, Power::Dmg));
+    let mut r = c.registers;
+    let pc = r.pc;
+    let sp = r.sp;
+    let start = Addr(line.address(Part::Pc, pc.0));
+    let stack = Addr(line.address(Part::Sp, sp.0));
+    r.pc = start;
+    r.sp = stack;
     Cpu::with_registers(r, c.dmg)
 }
 
 // A run that has come so far goes no further.
-pub fn over(far: Far) -> bool {
+pub fn over(far: Far) -> bool
+    ensures { λ r. ⌜ r ≡ stopsLast (far .last) ⌝ }
+{
     let last = far.last;
     stopped(last)
 }
 
-pub fn budget(slot: u64) -> u64 {
-    if slot == 0 { 65535 } else { slot - 1 }
+// How many steps were asked for.
+pub fn budget(line: Line) -> u64
+    ensures { λ r. ⌜ r ≡ budget line ⌝ }
+{
+    line.number(Part::Steps, 65535)
 }
 
-pub fn rest(steps: u64) -> u16 {
+// What whole runs of 65,535 steps leave over.
+pub fn rest(steps: u64) -> u16
+    ensures { λ r. ⌜ r ≡ steps % 65535 ⌝ }
+{
     (steps % 65535) as u16
 }

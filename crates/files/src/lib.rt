@@ -1,19 +1,9 @@
 // The image is read, and memory is written to a new file that is renamed into place.
-use line::AT;
-use line::IMAGE;
-use line::Line;
+use commandline::grammar::Part;
+use commandline::line::Line;
 use saying::mistakes;
 use saying::page::within;
 use text::page::put;
-
-// A slot's number; the slot holds one more.
-pub fn number(slot: u64) -> u16 {
-    if slot == 0 {
-        return 0;
-    }
-    let n = slot - 1;
-    if n < 65536 { n as u16 } else { 0 }
-}
 
 fn length_of(n: usize) -> u64 {
     n as u64
@@ -59,25 +49,27 @@ fn load_from(fd: i32, path: &[u8], mem: &mut [u8], given: bool, from: u16) -> bo
     true
 }
 
-fn load_named(path: &[u8], mem: &mut [u8], at: u64) -> bool {
+fn load_named(path: &[u8], mem: &mut [u8], given: bool, from: u16) -> bool {
     let fd = os::open_read(path);
     if fd < 0 {
         mistakes::unreadable(path);
         return false;
     }
-    let done = load_from(fd, path, mem, at != 0, number(at));
+    let done = load_from(fd, path, mem, given, from);
     libc::close(fd);
     done
 }
 
-fn index(slot: u64) -> usize {
-    slot as usize
-}
-
+// Without --at the image is the whole memory.
 pub fn load(line: Line, mem: &mut [u8]) -> bool {
     let mut path = io::buffer();
-    let n = os::arg(index(line.slot_of(IMAGE)), &mut path);
-    load_named(&path[..n], mem, line.slot_of(AT))
+    let n = os::arg(line.word(Part::Image, 0), &mut path);
+    load_named(
+        &path[..n],
+        mem,
+        line.has(Part::At),
+        line.address(Part::At, 0),
+    )
 }
 
 fn cannot_write(path: &[u8]) -> bool {
@@ -129,9 +121,9 @@ fn save_as(new: &[u8], path: &[u8], mem: &[u8], tells: bool) -> bool {
     true
 }
 
-pub fn save(slot: u64, mem: &[u8], tells: bool) -> bool {
+pub fn save(line: Line, mem: &[u8], tells: bool) -> bool {
     let mut path = io::buffer();
-    let n = os::arg(index(slot), &mut path);
+    let n = os::arg(line.word(Part::Out, 0), &mut path);
     save_named(&path[..n], mem, tells)
 }
 

@@ -1,30 +1,44 @@
-// Numbers as a person writes them: decimal, as 336, or hexadecimal, as 0x0150. Each way to be wrong has its number.
+// Numbers as a person writes them: decimal, as 336, or hexadecimal, as 0x0150. Each way to be wrong has its name.
 ghost use mathlib.Core.Path.{_≡_};
+ghost use mathlib.Core.Bool.{true, false};
 ghost use Prim.Native.Nat.{_<_, _≤_};
-ghost use Rattle.number.specs.Number.{valueOf, timesBase, stoppedBy, grown, decimalStage, readDecimal, readHex, readByte, reads, ended, numberIn};
+ghost use Rattle.number.specs.Number.{digitOf, timesBase, grown, decimal, hexadecimal, readDecimal, readHex, begun, afterZero, readByte, reads, ended, numberIn};
 
-pub const EMPTY: u8 = 1;
-
-pub const NOT_A_DIGIT: u8 = 2;
-
-pub const H_AT_THE_END: u8 = 3;
-
-pub const HEX_WITHOUT_0X: u8 = 4;
-
-pub const NO_DIGIT_AFTER_0X: u8 = 5;
-
-pub const TOO_LARGE: u8 = 6;
-
-// What has been read: nothing, a 0, decimal digits, 0x, or 0x with digits.
-pub struct Reading {
-    pub stage: u8,
-    pub value: u64,
-    pub wrong: u8,
+// Why a text is no number.
+pub enum Fault {
+    Empty,
+    NotADigit,
+    HAtTheEnd,
+    HexWithoutPrefix,
+    NoDigitAfterPrefix,
+    TooLarge,
 }
 
-// The value of a hexadecimal digit; 16 for h, 17 for any other byte.
-fn value_of(b: u8) -> u8
-    ensures { λ r. ⌜ r ≡ valueOf b ⌝ }
+pub enum Number {
+    Is(u64),
+    Not(Fault),
+}
+
+// A byte as a digit: 0 to 9, a letter that counts 10 to 15, an h, or none.
+pub enum Digit {
+    Decimal(u8),
+    Letter(u8),
+    H,
+    Other,
+}
+
+// What has been read: nothing, a 0, decimal digits, 0x, 0x with digits; or the first mistake.
+pub enum Reading {
+    Nothing,
+    Zero,
+    Decimal(u64),
+    Prefix,
+    Hex(u64),
+    Wrong(Fault),
+}
+
+fn digit_of(b: u8) -> Digit
+    ensures { λ r. ⌜ r ≡ digitOf b ⌝ }
 {
     let below_0 = b < 48;
     let to_9 = b < 58;
@@ -35,40 +49,30 @@ fn value_of(b: u8) -> u8
     let to_small_f = b < 103;
     let small_h = b == 104;
     if below_0 {
-        return 17;
+        return Digit::Other;
     }
     if to_9 {
-        return b - 48;
+        return Digit::Decimal(b - 48);
     }
     if below_a {
-        return 17;
+        return Digit::Other;
     }
     if to_f {
-        return b - 55;
+        return Digit::Letter(b - 55);
     }
     if h {
-        return 16;
+        return Digit::H;
     }
     if below_small_a {
-        return 17;
+        return Digit::Other;
     }
     if to_small_f {
-        return b - 87;
+        return Digit::Letter(b - 87);
     }
     if small_h {
-        return 16;
+        return Digit::H;
     }
-    17
-}
-
-fn stopped(r: Reading, wrong: u8) -> Reading
-    ensures { λ x. ⌜ x ≡ stoppedBy r wrong ⌝ }
-{
-    Reading {
-        stage: r.stage,
-        value: r.value,
-        wrong: wrong,
-    }
+    Digit::Other
 }
 
 fn times_base(value: u64, hex: bool) -> u64
@@ -79,122 +83,115 @@ fn times_base(value: u64, hex: bool) -> u64
 }
 
 // One digit more. Numbers above 4,294,967,295 are too large.
-fn grown(r: Reading, stage: u8, hex: bool, digit: u8) -> Reading
-    ensures { λ x. ⌜ x ≡ grown r stage hex digit ⌝ }
+fn grown(value: u64, hex: bool, digit: u8) -> Number
+    ensures { λ x. ⌜ x ≡ grown value hex digit ⌝ }
 {
-    let large = 4294967295 < r.value;
+    let large = 4294967295 < value;
     if large {
-        return stopped(r, TOO_LARGE);
+        return Number::Not(Fault::TooLarge);
     }
-    let value = times_base(r.value, hex) + (digit as u64);
-    let too_large = 4294967295 < value;
+    let next = times_base(value, hex) + (digit as u64);
+    let too_large = 4294967295 < next;
     if too_large {
-        return stopped(r, TOO_LARGE);
+        return Number::Not(Fault::TooLarge);
     }
-    Reading {
-        stage: stage,
-        value: value,
-        wrong: r.wrong,
+    Number::Is(next)
+}
+
+fn decimal(value: u64, digit: u8) -> Reading
+    ensures { λ x. ⌜ x ≡ decimal (grown value false digit) ⌝ }
+{
+    match grown(value, false, digit) {
+        Number::Is(next) => Reading::Decimal(next),
+        Number::Not(fault) => Reading::Wrong(fault),
     }
 }
 
-// A 0 in front may become 0x.
-fn decimal_stage(stage: u8, digit: u8) -> u8
-    ensures { λ r. ⌜ r ≡ decimalStage stage digit ⌝ }
+fn hexadecimal(value: u64, digit: u8) -> Reading
+    ensures { λ x. ⌜ x ≡ hexadecimal (grown value true digit) ⌝ }
 {
-    let first = stage == 0;
-    let nought = digit == 0;
-    let zero = first & nought;
-    if zero { 1 } else { 2 }
+    match grown(value, true, digit) {
+        Number::Is(next) => Reading::Hex(next),
+        Number::Not(fault) => Reading::Wrong(fault),
+    }
 }
 
-fn read_decimal(r: Reading, digit: u8) -> Reading
-    ensures { λ x. ⌜ x ≡ readDecimal r digit ⌝ }
+fn read_decimal(value: u64, digit: Digit) -> Reading
+    ensures { λ x. ⌜ x ≡ readDecimal value digit ⌝ }
 {
-    let decimal = digit < 10;
-    if decimal {
-        let stage = decimal_stage(r.stage, digit);
-        return grown(r, stage, false, digit);
+    match digit {
+        Digit::Decimal(d) => decimal(value, d),
+        Digit::Letter(_) => Reading::Wrong(Fault::HexWithoutPrefix),
+        Digit::H => Reading::Wrong(Fault::HAtTheEnd),
+        Digit::Other => Reading::Wrong(Fault::NotADigit),
     }
-    let letter = digit < 16;
-    if letter {
-        return stopped(r, HEX_WITHOUT_0X);
-    }
-    let h = digit == 16;
-    if h {
-        return stopped(r, H_AT_THE_END);
-    }
-    stopped(r, NOT_A_DIGIT)
 }
 
-fn read_hex(r: Reading, digit: u8) -> Reading
-    ensures { λ x. ⌜ x ≡ readHex r digit ⌝ }
+fn read_hex(value: u64, digit: Digit) -> Reading
+    ensures { λ x. ⌜ x ≡ readHex value digit ⌝ }
 {
-    let hex = digit < 16;
-    if hex {
-        return grown(r, 4, true, digit);
+    match digit {
+        Digit::Decimal(d) => hexadecimal(value, d),
+        Digit::Letter(d) => hexadecimal(value, d),
+        Digit::H => Reading::Wrong(Fault::HAtTheEnd),
+        Digit::Other => Reading::Wrong(Fault::NotADigit),
     }
-    let h = digit == 16;
-    if h {
-        return stopped(r, H_AT_THE_END);
+}
+
+// The first byte: a 0 in front may become 0x.
+fn begun(b: u8) -> Reading
+    ensures { λ x. ⌜ x ≡ begun b ⌝ }
+{
+    let zero = b == 48;
+    if zero {
+        return Reading::Zero;
     }
-    stopped(r, NOT_A_DIGIT)
+    read_decimal(0, digit_of(b))
+}
+
+fn after_zero(b: u8) -> Reading
+    ensures { λ x. ⌜ x ≡ afterZero b ⌝ }
+{
+    let small = b == 120;
+    let large = b == 88;
+    let prefix = small | large;
+    if prefix {
+        return Reading::Prefix;
+    }
+    read_decimal(0, digit_of(b))
 }
 
 // One byte more. The first mistake stays.
 fn read_byte(r: Reading, b: u8) -> Reading
     ensures { λ x. ⌜ x ≡ readByte r b ⌝ }
 {
-    let bad = 0 < r.wrong;
-    if bad {
-        return r;
+    match r {
+        Reading::Nothing => begun(b),
+        Reading::Zero => after_zero(b),
+        Reading::Decimal(value) => read_decimal(value, digit_of(b)),
+        Reading::Prefix => read_hex(0, digit_of(b)),
+        Reading::Hex(value) => read_hex(value, digit_of(b)),
+        Reading::Wrong(fault) => Reading::Wrong(fault),
     }
-    let digit = value_of(b);
-    let hex = 2 < r.stage;
-    if hex {
-        return read_hex(r, digit);
-    }
-    let zero = r.stage == 1;
-    let small = b == 120;
-    let large = b == 88;
-    let x = small | large;
-    let prefix = zero & x;
-    if prefix {
-        return Reading {
-            stage: 3,
-            value: 0,
-            wrong: 0,
-        };
-    }
-    read_decimal(r, digit)
 }
 
-fn ended(r: Reading) -> Reading
+fn ended(r: Reading) -> Number
     ensures { λ x. ⌜ x ≡ ended r ⌝ }
 {
-    let bad = 0 < r.wrong;
-    if bad {
-        return r;
+    match r {
+        Reading::Nothing => Number::Not(Fault::Empty),
+        Reading::Zero => Number::Is(0),
+        Reading::Decimal(value) => Number::Is(value),
+        Reading::Prefix => Number::Not(Fault::NoDigitAfterPrefix),
+        Reading::Hex(value) => Number::Is(value),
+        Reading::Wrong(fault) => Number::Not(fault),
     }
-    let nothing = r.stage == 0;
-    if nothing {
-        return stopped(r, EMPTY);
-    }
-    let bare = r.stage == 3;
-    if bare {
-        return stopped(r, NO_DIGIT_AFTER_0X);
-    }
-    r
 }
 
-pub fn number_in(text: &[u8]) -> Reading
+pub fn number_in(text: &[u8]) -> Number
     ensures { λ r. ⌜ r ≡ numberIn (now (text .entry)) ⌝ }
 {
-    let mut r = Reading {
-        stage: 0,
-        value: 0,
-        wrong: 0,
-    };
+    let mut r = Reading::Nothing;
     let mut i = 0;
     while i < text.len() {
         r = read_byte(r, text[i]);

@@ -1,4 +1,6 @@
 // phk run and phk step.
+use commandline::grammar::Part;
+use commandline::line::Line;
 use course::ends::clear_progress;
 use course::ends::print_all_changes;
 use course::ends::print_end;
@@ -9,11 +11,6 @@ use course::far::budget;
 use course::far::over;
 use course::far::rest;
 use course::far::started;
-use line::Line;
-use line::OUT;
-use line::STEP;
-use line::STEPS;
-use line::TRACE;
 use outcome::LastOutcome;
 use run::run;
 use run::step;
@@ -93,37 +90,34 @@ fn run_all(far: Far, mem: &mut [u8], steps: u64, trace: bool, progress: bool) ->
     ran(f, mem, more)
 }
 
-fn stepping(mem: &mut [u8], far: Far) -> u8 {
+fn started_at(line: Line) -> Far {
+    let cpu = started(line);
+    Far {
+        cpu: cpu,
+        last: LastOutcome::NothingRun,
+        steps: 0,
+        cycles: 0,
+    }
+}
+
+fn stepped(line: Line, mem: &mut [u8]) -> u8 {
     let mut old = io::large_buffer();
     text::page::put(&mut old, 0, mem);
-    let end = ran(far, mem, 1);
+    let end = ran(started_at(line), mem, 1);
     let status = print_end(end, mem);
     sentences::accesses(end.cycles);
     print_all_changes(&old, mem);
     status
 }
 
-fn running(line: Line, mem: &mut [u8], progress: bool, far: Far) -> u8 {
-    let trace = line.slot_of(TRACE) != 0;
-    let end = run_all(far, mem, budget(line.slot_of(STEPS)), trace, progress);
-    print_end(end, mem)
+pub fn stepping(line: Line, mem: &mut [u8], env: Env) -> u8 {
+    let status = stepped(line, mem);
+    saved(line, mem, env.tells, status)
 }
 
-fn obeyed(line: Line, mem: &mut [u8], progress: bool) -> u8 {
-    let cpu = started(line);
-    let far = Far {
-        cpu: cpu,
-        last: LastOutcome::NothingRun,
-        steps: 0,
-        cycles: 0,
-    };
-    if line.command == STEP {
-        return stepping(mem, far);
-    }
-    running(line, mem, progress, far)
-}
-
-pub fn machine(line: Line, mem: &mut [u8], env: Env) -> u8 {
-    let status = obeyed(line, mem, env.progress);
-    saved(line.slot_of(OUT), mem, env.tells, status)
+pub fn running(line: Line, mem: &mut [u8], env: Env) -> u8 {
+    let trace = line.has(Part::Trace);
+    let end = run_all(started_at(line), mem, budget(line), trace, env.progress);
+    let status = print_end(end, mem);
+    saved(line, mem, env.tells, status)
 }

@@ -1,14 +1,13 @@
 // The field tool: phk screen, run, step, version and help. What it says is in `saying` and `sentences`, the files that it reads and writes in `files`,
-// the screen in `tool`, what the command line means in `command`; here the line is read and obeyed.
+// the screen in `tool`, what the command line means in `commandline`; here the line is read and obeyed.
 mod machine;
 
-use command::take::take;
-use finish::finish;
-use line::ASKS_HELP;
-use line::HELP;
-use line::Line;
-use line::SCREEN;
-use line::VERSION;
+use commandline::finish::Asked;
+use commandline::finish::finish;
+use commandline::grammar::Command;
+use commandline::line::Line;
+use commandline::line::Mistake;
+use commandline::take::take;
 use saying::help;
 use saying::mistakes;
 use saying::said;
@@ -24,7 +23,7 @@ fn read_words(first: usize) -> Line {
         line = read_word(line, i);
         i += 1;
     }
-    finish(line)
+    line
 }
 
 fn read_word(line: Line, i: usize) -> Line {
@@ -33,41 +32,65 @@ fn read_word(line: Line, i: usize) -> Line {
     take(line, &word[..n], i)
 }
 
-fn obey(line: Line, env: Env) -> u8 {
-    let command = line.command;
-    let asks = line.slot_of(ASKS_HELP);
-    if asks != 0 {
-        help::help(command);
-        return said::DONE;
-    }
-    if command == HELP {
-        help::help(0);
-        return said::DONE;
-    }
-    if command == VERSION {
-        help::version();
-        return said::DONE;
-    }
+fn screen(line: Line, env: Env) -> u8 {
     let mut mem = io::large_buffer();
-    let loaded = files::load(line, &mut mem);
-    if !loaded {
-        return said::REFUSED;
-    }
-    if command == SCREEN {
+    if files::load(line, &mut mem) {
         return screening::screening(line, &mem, env);
     }
-    machine::machine(line, &mut mem, env)
+    said::REFUSED
+}
+
+fn run(line: Line, env: Env) -> u8 {
+    let mut mem = io::large_buffer();
+    if files::load(line, &mut mem) {
+        return machine::running(line, &mut mem, env);
+    }
+    said::REFUSED
+}
+
+fn step(line: Line, env: Env) -> u8 {
+    let mut mem = io::large_buffer();
+    if files::load(line, &mut mem) {
+        return machine::stepping(line, &mut mem, env);
+    }
+    said::REFUSED
+}
+
+fn help(command: Command) -> u8 {
+    help::help(command);
+    said::DONE
+}
+
+fn version() -> u8 {
+    help::version();
+    said::DONE
+}
+
+fn mistaken(mistake: Mistake) -> u8 {
+    mistakes::mistake(mistake);
+    said::BAD_USAGE
+}
+
+fn obey(command: Command, line: Line, env: Env) -> u8 {
+    match command {
+        Command::Screen => screen(line, env),
+        Command::Run => run(line, env),
+        Command::Step => step(line, env),
+        Command::Version => version(),
+        Command::Help => help(command),
+    }
+}
+
+fn answer(line: Line, env: Env) -> u8 {
+    match finish(line) {
+        Asked::Help(command) => help(command),
+        Asked::Obey(command) => obey(command, line, env),
+        Asked::Mistaken(mistake) => mistaken(mistake),
+    }
 }
 
 fn main() {
     let env = said::told();
-    let line = read_words(env.first);
-    let wrong = line.wrong;
-    if wrong != 0 {
-        mistakes::mistake(line);
-        said::last_word(env, said::BAD_USAGE);
-        return;
-    }
-    let status = obey(line, env);
+    let status = answer(read_words(env.first), env);
     said::last_word(env, status);
 }

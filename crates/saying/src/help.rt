@@ -1,7 +1,5 @@
 // What `--help` and `version` print: a page each.
-use line::RUN;
-use line::SCREEN;
-use line::STEP;
+use commandline::grammar::Command;
 
 fn general() {
     io::write_all(
@@ -66,15 +64,13 @@ Runs one instruction, and prints what phk run prints, the number of accesses to 
     machine();
 }
 
-pub fn help(command: u8) {
-    if command == SCREEN {
-        screening();
-    } else if command == RUN {
-        running();
-    } else if command == STEP {
-        stepping();
-    } else {
-        general();
+pub fn help(command: Command) {
+    match command {
+        Command::Screen => screening(),
+        Command::Run => running(),
+        Command::Step => stepping(),
+        Command::Version => general(),
+        Command::Help => general(),
     }
 }
 

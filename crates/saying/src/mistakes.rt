@@ -1,8 +1,10 @@
 // What the tool says of files that it cannot read or write and of a bad command line: each sentence once, as in `sentences`.
 use crate::page::fail;
 use crate::page::print;
-use line::Line;
+use commandline::grammar::Part;
+use commandline::line::Mistake;
 use lines::line_of;
+use number::Fault;
 
 pub fn unreadable(path: &[u8]) {
     fail(b"phk: IMAGE '@', expected a file that can be read", path);
@@ -60,68 +62,123 @@ fn quoted(word: &[u8]) {
     }
 }
 
-fn expected(wrong: u8) {
-    let text = line_of(
-        b"
-no command was given; expected screen, run, step, version or help
-is no command; expected screen, run, step, version or help
-is no option; phk screen --help, phk run --help and phk step --help list them
-is no option of this command; --help after the command lists those that it has
-was given twice; give it once
-its value is missing; expected one more word
-is one word too many; --help after the command shows which it takes
-it is missing; --help after the command shows where it stands
-no such state; expected dmg, cgb, cgb-dmg or zero
-the window is the wrong way round (refusal 4); expected FIRST not above LAST
-
-an empty word is no number; expected one such as 336 or 0x0150
-this is no number; expected a decimal one such as 336 or a hexadecimal one such as 0x0150
-an h marks no number here; write hexadecimal with 0x in front, as 0x0150
-a hexadecimal number needs 0x in front; expected one such as 0x0150, or a decimal one such as 336
-no digit follows the 0x; expected a hexadecimal number such as 0x0150
-this number is too large; expected at most 4294967295
-this address is too large; expected at most 0xFFFF, which is 65535",
-        wrong as usize,
-    );
-    print(2, b" @\n", &[], text);
+fn quoted_at(index: usize) {
+    let mut word = io::buffer();
+    let n = os::arg(index, &mut word);
+    quoted(&word[..n]);
 }
 
-// The word, as what it stands for.
-fn named(slot: u8, word: &[u8]) {
-    let name = line_of(
-        b"IMAGE\nFIRST\nLAST\n--at\n--state\n--pc\n--sp\n--steps\n--out\n--marks\n--map\n--trace\n--help",
-        slot as usize,
-    );
-    print(2, b" @", &[], name);
-    quoted(word);
+fn name_of(part: Part) {
+    match part {
+        Part::Image => io::write_all(2, b" IMAGE"),
+        Part::First => io::write_all(2, b" FIRST"),
+        Part::Last => io::write_all(2, b" LAST"),
+        Part::At => io::write_all(2, b" --at"),
+        Part::State => io::write_all(2, b" --state"),
+        Part::Pc => io::write_all(2, b" --pc"),
+        Part::Sp => io::write_all(2, b" --sp"),
+        Part::Steps => io::write_all(2, b" --steps"),
+        Part::Out => io::write_all(2, b" --out"),
+        Part::Marks => io::write_all(2, b" --marks"),
+        Part::Map => io::write_all(2, b" --map"),
+        Part::Trace => io::write_all(2, b" --trace"),
+        Part::Help => io::write_all(2, b" --help"),
+    }
+    ;
+}
+
+// The part, and what was given for it.
+fn named(part: Part, index: usize) {
+    name_of(part);
+    quoted_at(index);
     io::write_all(2, b":");
 }
 
-// Mistakes 1 to 5 and 7 are about the word itself, the others about what it stands for.
-fn about_the_word(wrong: u8) -> bool {
-    (wrong < 6) | (wrong == 7)
+// The part, for which nothing was given.
+fn named_alone(part: Part) {
+    name_of(part);
+    io::write_all(2, b":");
 }
 
-fn mistake_in(slot: u8, word: &[u8], wrong: u8) {
+// What a mistake is about: a word, a part, or what was given for one.
+fn subject(mistake: Mistake) {
+    match mistake {
+        Mistake::NoCommand => {}
+        Mistake::UnknownCommand(index) => quoted_at(index),
+        Mistake::UnknownOption(index) => quoted_at(index),
+        Mistake::NotHere(index) => quoted_at(index),
+        Mistake::Twice(index) => quoted_at(index),
+        Mistake::NoValue(part) => named_alone(part),
+        Mistake::TooMany(index) => quoted_at(index),
+        Mistake::NotGiven(part) => named_alone(part),
+        Mistake::UnknownPower(part, index) => named(part, index),
+        Mistake::Reversed => named_alone(Part::First),
+        Mistake::BadNumber(part, index, _) => named(part, index),
+        Mistake::AddressTooLarge(part, index) => named(part, index),
+    }
+}
+
+fn said(text: &[u8]) {
+    print(2, b" @\n", &[], text);
+}
+
+// Why a word is no number.
+fn fault_of(fault: Fault) {
+    match fault {
+        Fault::Empty => said(b"an empty word is no number; expected one such as 336 or 0x0150"),
+        Fault::NotADigit => said(
+            b"this is no number; expected a decimal one such as 336 or a hexadecimal one such as 0x0150",
+        ),
+        Fault::HAtTheEnd => said(
+            b"an h marks no number here; write hexadecimal with 0x in front, as 0x0150",
+        ),
+        Fault::HexWithoutPrefix => said(
+            b"a hexadecimal number needs 0x in front; expected one such as 0x0150, or a decimal one such as 336",
+        ),
+        Fault::NoDigitAfterPrefix => said(
+            b"no digit follows the 0x; expected a hexadecimal number such as 0x0150",
+        ),
+        Fault::TooLarge => said(b"this number is too large; expected at most 4294967295"),
+    }
+}
+
+// What was expected.
+fn expected(mistake: Mistake) {
+    match mistake {
+        Mistake::NoCommand => said(
+            b"no command was given; expected screen, run, step, version or help",
+        ),
+        Mistake::UnknownCommand(_) => said(
+            b"is no command; expected screen, run, step, version or help",
+        ),
+        Mistake::UnknownOption(_) => said(
+            b"is no option; phk screen --help, phk run --help and phk step --help list them",
+        ),
+        Mistake::NotHere(_) => said(
+            b"is no option of this command; --help after the command lists those that it has",
+        ),
+        Mistake::Twice(_) => said(b"was given twice; give it once"),
+        Mistake::NoValue(_) => said(b"its value is missing; expected one more word"),
+        Mistake::TooMany(_) => said(
+            b"is one word too many; --help after the command shows which it takes",
+        ),
+        Mistake::NotGiven(_) => said(
+            b"it is missing; --help after the command shows where it stands",
+        ),
+        Mistake::UnknownPower(_, _) => said(b"no such state; expected dmg, cgb, cgb-dmg or zero"),
+        Mistake::Reversed => said(
+            b"the window is the wrong way round (refusal 4); expected FIRST not above LAST",
+        ),
+        Mistake::BadNumber(_, _, fault) => fault_of(fault),
+        Mistake::AddressTooLarge(_, _) => said(
+            b"this address is too large; expected at most 0xFFFF, which is 65535",
+        ),
+    }
+}
+
+// The first mistake of a command line: what it is about, and what was expected.
+pub fn mistake(mistake: Mistake) {
     io::write_all(2, b"phk:");
-    if about_the_word(wrong) {
-        quoted(word);
-    } else {
-        named(slot, word);
-    }
-    expected(wrong);
-}
-
-// The first mistake of a command line: the word, if there is one, and what was expected.
-pub fn mistake(line: Line) {
-    let index = line.word;
-    let slot = line.slot;
-    let wrong = line.wrong;
-    if index == 0 {
-        mistake_in(slot, b"", wrong);
-    } else {
-        let mut word = io::buffer();
-        let n = os::arg(index, &mut word);
-        mistake_in(slot, &word[..n], wrong);
-    }
+    subject(mistake);
+    expected(mistake);
 }

@@ -1,10 +1,6 @@
 // phk screen: the verdict, the marks and the map.
-use files::number;
-use line::FIRST;
-use line::LAST;
-use line::Line;
-use line::MAP;
-use line::MARKS;
+use commandline::grammar::Part;
+use commandline::line::Line;
 use picture::kinds::draw;
 use saying::page::within;
 use saying::said;
@@ -33,7 +29,7 @@ fn print_start(mem: &[u8], marks: &[u8], first: u16, a: u16) {
     }
 }
 
-fn print_starts(mem: &[u8], marks: &[u8], first: u16, length: u16) {
+fn print_starts(mem: &[u8], marks: &[u8], first: u16, length: usize) {
     let mut left = length;
     let mut a = first;
     while 0 < left {
@@ -73,16 +69,16 @@ fn print_drawn(mem: &[u8], first: u16, verdict: Verdict, kinds: &mut [u8], colou
     sentences::legend();
 }
 
-fn print_map(mem: &[u8], first: u16, length: u16, verdict: Verdict, colour: bool) {
-    let mut kinds = io::buffer();
-    let n = within(&kinds, length as usize);
+fn print_map(mem: &[u8], first: u16, length: usize, verdict: Verdict, colour: bool) {
+    let mut kinds = io::large_buffer();
+    let n = within(&kinds, length);
     print_drawn(mem, first, verdict, &mut kinds[..n], colour);
 }
 
-fn print_passes(line: Line, mem: &[u8], marks: &[u8], first: u16, last: u16, length: u16) {
+fn print_passes(line: Line, mem: &[u8], marks: &[u8], first: u16, last: u16, length: usize) {
     let c = count(mem, Addr(first), marks);
     sentences::passes(first, last, c.instructions, c.jumps);
-    if line.slot_of(MARKS) != 0 {
+    if line.has(Part::Marks) {
         print_starts(mem, marks, first, length);
     }
 }
@@ -93,11 +89,11 @@ fn judged(
     marks: &mut [u8],
     first: u16,
     last: u16,
-    length: u16,
+    length: usize,
     colour: bool,
 ) -> u8 {
     let verdict = screen(mem, Addr(first), Addr(last), marks);
-    let map = line.slot_of(MAP) != 0;
+    let map = line.has(Part::Map);
     let number = verdict.number();
     match verdict {
         Verdict::Passes => {
@@ -121,16 +117,13 @@ fn judged(
     }
 }
 
+// The screen decides which windows it takes: it is lent a mark for each byte of any window.
 pub fn screening(line: Line, mem: &[u8], env: Env) -> u8 {
-    let first = number(line.slot_of(FIRST));
-    let last = number(line.slot_of(LAST));
+    let first = line.address(Part::First, 0);
+    let last = line.address(Part::Last, 0);
     let span = std::num::wrapping_sub_u16(last, first);
-    if 4095 < span {
-        sentences::refused(5);
-        return said::REFUSED;
-    }
-    let length = span + 1;
-    let mut marks = io::buffer();
-    let n = within(&marks, length as usize);
+    let length = (span as usize) + 1;
+    let mut marks = io::large_buffer();
+    let n = within(&marks, length);
     judged(line, mem, &mut marks[..n], first, last, length, env.colour)
 }

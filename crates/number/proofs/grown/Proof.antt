@@ -1,4 +1,4 @@
--- Shows a number that was too large, one that becomes so, and one that fits.
+-- A number that was too large, one that becomes so, and one that fits.
 use Rattle.number.specs.Number.{grown}
 use borrow.Author.Needs.{needs}
 use Rattle.number.proofs.grown.Statement.{statement}
@@ -6,15 +6,15 @@ use Rattle.number.proofs.grown.Tie as tie
 
 returns : tie.Need-returns
 unfolding grown
-returns c = simp (c .stopped .ensures, c .before .if1 .taken)
+returns c = simp (c .if1 .taken)
 
 returns-2 : tie.Need-returns-2
 unfolding grown
-returns-2 c = simp (c .stopped2 .ensures, c .before .if2 .taken, ← c .before .before .times-base .ensures .0, c .before .before .before .if1 .left)
+returns-2 c = simp (c .if2 .taken, ← c .before .times-base .ensures .0, c .before .before .if1 .left)
 
 returns-3 : tie.Need-returns-3
 unfolding grown
 returns-3 c = simp (c .if2 .left, ← c .before .times-base .ensures .0, c .before .before .if1 .left)
 
 pub grown-spec : {M : Type 1} → statement M
-grown-spec = tie.close (tie.spec (λ c κs. search needs) returns (λ c κs. search needs) (λ c. search needs) (λ c κs. search needs) returns-2 returns-3)
+grown-spec = tie.close (tie.spec returns (λ c κs. search needs) (λ c. search needs) returns-2 returns-3)

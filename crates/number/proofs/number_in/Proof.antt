@@ -4,13 +4,14 @@ use Prim.Native.Nat.{_≤_, _-_, _+_}
 use native.Mathlib.Omega.{arith}
 use lib.ListN.{length, drop}
 use Rattle.number.specs.declared.Reading.{Reading}
-use Rattle.number.specs.Number.{reading, reads, ended}
+use Rattle.number.specs.declared.Reading.the-variants.{Nothing}
+use Rattle.number.specs.Number.{reads, ended}
 use Rattle.number.proofs.ByteRead.{byte-read, all-read}
 use Rattle.number.proofs.number_in.Statement.{statement}
 use Rattle.number.proofs.number_in.Tie as tie
 
 abbrev Inv-loop : tie.InvT-loop
-Inv-loop text r₀ i₀ r i = (i ≤ length text) × (reads r (drop i text) ≡ reads (reading 0 0 0) text)
+Inv-loop text r₀ i₀ r i = (i ≤ length text) × (reads r (drop i text) ≡ reads Nothing text)
 
 abbrev μ-loop : tie.MeasureT-loop
 μ-loop text r₀ i₀ r i = length text - i

@@ -1,2 +1,0 @@
--- What a command line means.
-pub mod Take

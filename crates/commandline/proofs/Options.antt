@@ -1,0 +1,62 @@
+-- An arm of the match on a command's options is right: one computed test over the numbers of the arm.
+use mathlib.Core.Path.{_≡_, refl, sym, ap, subst, _∙_}
+use mathlib.Core.Bool.{Bool, true, false}
+use mathlib.Core.List.{List, [], _∷_, map}
+use mathlib.Core.Logic.{inl, inr}
+use Prim.Native.Nat.{ℕ, zero, suc, _+_}
+use types.Run.{OneOf}
+use denote.Enum.Declared.{tagOf}
+use Rattle.text.specs.Page.{choose}
+use Rattle.commandline.specs.declared.grammar.Command.{Command}
+use Rattle.commandline.specs.declared.grammar.Part.{Part}
+use Rattle.commandline.specs.declared.grammar.Part.the-variants.{Image, First, Last, At, State, Pc, Sp, Steps, Out, Marks, Map, Trace, Help}
+use Rattle.commandline.proofs.grammar.Part.{the-type}
+use Rattle.commandline.specs.Grammar.{place, parts, isIn, optionsOf, allows}
+
+-- the number by which a match tells a part is its place
+placed : (p : Part) → tagOf the-type p ≡ place p
+placed Image = refl
+placed First = refl
+placed Last = refl
+placed At = refl
+placed State = refl
+placed Pc = refl
+placed Sp = refl
+placed Steps = refl
+placed Out = refl
+placed Marks = refl
+placed Map = refl
+placed Trace = refl
+placed Help = refl
+
+later : (f : ℕ → Bool) (b : Bool) (k : ℕ) (ks : List ℕ) → map f (k ∷ ks) ≡ map (λ (n : ℕ). b) (k ∷ ks) → (x : ℕ) → OneOf (k ∷ ks) x → b ≡ f x
+later f b k [] e x one = cc
+later f b k (j ∷ ks) e x (inl one) = cc
+later f b k (j ∷ ks) e x (inr one) = later f b j ks (cc) x one
+
+each : (f : ℕ → Bool) (b : Bool) (ks : List ℕ) → map f ks ≡ map (λ (n : ℕ). b) ks → (x : ℕ) → OneOf ks x → b ≡ f x
+each f b [] e x one = absurd one
+each f b (k ∷ ks) e x one = later f b k ks e x one
+
+-- what an arm answers for the parts with these numbers is what the list of the command's options says of each
+answers : (c : Command) (b : Bool) (ks : List ℕ) → map (λ (n : ℕ). isIn n (optionsOf c)) ks ≡ map (λ (n : ℕ). b) ks → (d : Command) → d ≡ c → (p : Part) → OneOf ks (tagOf the-type p) → b ≡ allows d p
+answers c b ks right d told p one =
+    each (λ (n : ℕ). isIn n (optionsOf c)) b ks right (place p) (subst (OneOf ks) (placed p) one) ∙ ap (λ (e : Command). allows e p) (sym told)
+
+-- the arm that names a command's options
+abbrev pub named : Command → List ℕ
+named c = map place (optionsOf c)
+
+pub taken : (c : Command) → map (λ (n : ℕ). isIn n (optionsOf c)) (named c) ≡ map (λ (n : ℕ). true) (named c) → (d : Command) → d ≡ c → (p : Part) → OneOf (named c) (tagOf the-type p) → true ≡ allows d p
+taken c = answers c true (named c)
+
+-- the arm for all other parts
+abbrev without : List Part → ℕ → ℕ → List ℕ
+without l n zero = []
+without l n (suc count) = choose (isIn n l) (without l (n + 1) count) (n ∷ without l (n + 1) count)
+
+abbrev pub others : Command → List ℕ
+others c = without (optionsOf c) 0 parts
+
+pub refused : (c : Command) → map (λ (n : ℕ). isIn n (optionsOf c)) (others c) ≡ map (λ (n : ℕ). false) (others c) → (d : Command) → d ≡ c → (p : Part) → OneOf (others c) (tagOf the-type p) → false ≡ allows d p
+refused c = answers c false (others c)

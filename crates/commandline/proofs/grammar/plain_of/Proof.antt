@@ -1,0 +1,15 @@
+-- Each command, by its constructor.
+use borrow.Author.Needs.{needs}
+use Rattle.commandline.proofs.grammar.plain_of.Statement.{statement}
+use Rattle.commandline.proofs.grammar.plain_of.Tie as tie
+
+pub plain-of-spec : {M : Type 1} → statement M
+plain-of-spec =
+    tie.close
+    (tie.spec
+    (λ c. search needs) (λ c. search needs) (λ c. search needs) (λ c. search needs) (λ c. search needs)
+    (λ c. simp (c .enum-told .given .1))
+    (λ c. simp (c .enum-told2 .given .1))
+    (λ c. simp (c .enum-told3 .given .1))
+    (λ c. search needs)
+    (λ c. search needs))

@@ -1,0 +1,16 @@
+-- A word that names a command, and one that does not.
+use Rattle.commandline.specs.Take.{takeCommand}
+use borrow.Author.Needs.{needs}
+use Rattle.commandline.proofs.take.take_command.Statement.{statement}
+use Rattle.commandline.proofs.take.take_command.Tie as tie
+
+returns : tie.Need-returns
+unfolding takeCommand
+returns c = simp (c .with-stage .ensures, ← c .before .plain-of .ensures, c .before .before .before .command .given .1, ← c .before .before .before .before .before .command-named .ensures)
+
+returns-2 : tie.Need-returns-2
+unfolding takeCommand
+returns-2 c = simp (c .with-stage2 .ensures, c .before .enum-told .given .1, ← c .before .before .before .command-named .ensures)
+
+pub take-command-spec : {M : Type 1} → statement M
+take-command-spec = tie.close (tie.spec (λ c κs. search needs) (λ c. search needs) (λ c κs. search needs) (λ c κs. search needs) (λ c. search needs) (λ c κs. search needs) returns returns-2)

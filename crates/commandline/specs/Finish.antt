@@ -1,0 +1,42 @@
+-- The end of a command line: what it asks for, or what is wrong with it.
+use mathlib.Core.Bool.{Bool, true, false}
+use Prim.Native.Nat.{ℕ}
+use lib.Dec.{ltb}
+use Rattle.text.specs.Page.{choose}
+use Rattle.commandline.specs.declared.grammar.Command.{Command}
+use Rattle.commandline.specs.declared.grammar.Part.{Part}
+use Rattle.commandline.specs.declared.grammar.Part.the-variants as part
+use Rattle.commandline.specs.declared.grammar.Plain.{Plain}
+use Rattle.commandline.specs.declared.grammar.Plain.the-variants.{Nothing, One, Two, Three}
+use Rattle.commandline.specs.declared.line.Mistake.the-variants.{NoCommand, NoValue, NotGiven, Reversed}
+use Rattle.commandline.specs.declared.line.Stage.{Stage}
+use Rattle.commandline.specs.declared.line.Stage.the-variants.{Start, Takes, Awaits, Wrong}
+use Rattle.commandline.specs.declared.line.Line.{Line}
+use Rattle.commandline.specs.declared.finish.Asked.{Asked}
+use Rattle.commandline.specs.declared.finish.Asked.the-variants.{Help, Obey, Mistaken}
+use Rattle.commandline.specs.Given.{isGiven, addressOr}
+use Rattle.commandline.specs.Line.{saidOf}
+
+-- the window is the wrong way round: LAST is below FIRST
+unfoldable pub ordered : Line → Command → Asked
+ordered l c = choose (ltb (addressOr (saidOf l part.Last) 0) (addressOr (saidOf l part.First) 0)) (Mistaken Reversed) (Obey c)
+
+-- a plain word is missing
+unfoldable pub filled : Line → Command → Plain → Asked
+filled l c Nothing = ordered l c
+filled l c (One p) = Mistaken (NotGiven p)
+filled l c (Two p q) = Mistaken (NotGiven p)
+filled l c (Three p q r) = Mistaken (NotGiven p)
+
+-- --help asks for the command's help, whatever the line lacks
+abbrev pub orHelp : Line → Command → Asked → Asked
+orHelp l c asked = choose (isGiven (saidOf l part.Help)) (Help c) asked
+
+unfoldable pub finishAt : Stage → Line → Asked
+finishAt Start l = Mistaken NoCommand
+finishAt (Takes c plain) l = orHelp l c (filled l c plain)
+finishAt (Awaits c plain p) l = orHelp l c (Mistaken (NoValue p))
+finishAt (Wrong m) l = Mistaken m
+
+abbrev pub finished : Line → Asked
+finished l = finishAt (l .stage) l

@@ -1,0 +1,68 @@
+// The end of a command line: what it asks for, or what is wrong with it as a whole.
+ghost use mathlib.Core.Path.{_≡_};
+ghost use Rattle.commandline.specs.declared.finish.Asked.the-variants.{Mistaken};
+ghost use Rattle.commandline.specs.declared.line.Mistake.the-variants.{NoValue};
+ghost use Rattle.commandline.specs.Finish.{ordered, filled, orHelp, finished};
+use crate::grammar::Command;
+use crate::grammar::Part;
+use crate::grammar::Plain;
+use crate::line::Line;
+use crate::line::Mistake;
+use crate::line::Stage;
+
+// What a whole line asks for.
+pub enum Asked {
+    Help(Command),
+    Obey(Command),
+    Mistaken(Mistake),
+}
+
+// A window is the wrong way round if LAST is below FIRST.
+fn ordered(line: Line, command: Command) -> Asked
+    ensures { λ r. ⌜ r ≡ ordered line command ⌝ }
+{
+    let last = line.address(Part::Last, 0);
+    let first = line.address(Part::First, 0);
+    let reversed = last < first;
+    if reversed {
+        return Asked::Mistaken(Mistake::Reversed);
+    }
+    Asked::Obey(command)
+}
+
+// A plain word may be missing.
+fn filled(line: Line, command: Command, plain: Plain) -> Asked
+    ensures { λ r. ⌜ r ≡ filled line command plain ⌝ }
+{
+    match plain {
+        Plain::Nothing => ordered(line, command),
+        Plain::One(part) => Asked::Mistaken(Mistake::NotGiven(part)),
+        Plain::Two(part, _) => Asked::Mistaken(Mistake::NotGiven(part)),
+        Plain::Three(part, _, _) => Asked::Mistaken(Mistake::NotGiven(part)),
+    }
+}
+
+// --help asks for the command's help, whatever the line lacks.
+fn or_help(line: Line, command: Command, asked: Asked) -> Asked
+    ensures { λ r. ⌜ r ≡ orHelp line command asked ⌝ }
+{
+    let helps = line.has(Part::Help);
+    if helps {
+        return Asked::Help(command);
+    }
+    asked
+}
+
+pub fn finish(line: Line) -> Asked
+    ensures { λ r. ⌜ r ≡ finished line ⌝ }
+{
+    let stage = line.stage;
+    match stage {
+        Stage::Start => Asked::Mistaken(Mistake::NoCommand),
+        Stage::Takes(command, plain) => or_help(line, command, filled(line, command, plain)),
+        Stage::Awaits(command, _, part) => {
+            or_help(line, command, Asked::Mistaken(Mistake::NoValue(part)))
+        }
+        Stage::Wrong(mistake) => Asked::Mistaken(mistake),
+    }
+}

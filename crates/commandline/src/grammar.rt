@@ -1,0 +1,201 @@
+// The grammar: the commands, what a word may stand for, which words a command takes, and what follows an option. A new command or option
+// is one case in each of these.
+ghost use mathlib.Core.Path.{_≡_};
+ghost use Rattle.commandline.specs.Grammar.{plainOf, allows, kindOf, isAlone, commandNamed, optionNamed, powerNamed};
+use lines::number_of;
+
+pub enum Command {
+    Screen,
+    Run,
+    Step,
+    Version,
+    Help,
+}
+
+// What a word after the command stands for: a plain word, by its turn, or an option.
+pub enum Part {
+    Image,
+    First,
+    Last,
+    At,
+    State,
+    Pc,
+    Sp,
+    Steps,
+    Out,
+    Marks,
+    Map,
+    Trace,
+    Help,
+}
+
+// The states at power-on.
+pub enum Power {
+    Dmg,
+    Cgb,
+    CgbDmg,
+    Zero,
+}
+
+// Plain words, in their order.
+pub enum Plain {
+    Nothing,
+    One(Part),
+    Two(Part, Part),
+    Three(Part, Part, Part),
+}
+
+// The plain words of a command.
+pub fn plain_of(command: Command) -> Plain
+    ensures { λ r. ⌜ r ≡ plainOf command ⌝ }
+{
+    match command {
+        Command::Screen => Plain::Three(Part::Image, Part::First, Part::Last),
+        Command::Run => Plain::One(Part::Image),
+        Command::Step => Plain::One(Part::Image),
+        Command::Version => Plain::Nothing,
+        Command::Help => Plain::Nothing,
+    }
+}
+
+// The options of a command.
+pub fn allows(command: Command, part: Part) -> bool
+    ensures { λ r. ⌜ r ≡ allows command part ⌝ }
+{
+    match command {
+        Command::Screen => match part {
+            Part::At | Part::Marks | Part::Map | Part::Help => true,
+            _ => false,
+        },
+        Command::Run => match part {
+            Part::At
+            | Part::State
+            | Part::Pc
+            | Part::Sp
+            | Part::Steps
+            | Part::Out
+            | Part::Trace
+            | Part::Help => true,
+            _ => false,
+        },
+        Command::Step => match part {
+            Part::At | Part::State | Part::Pc | Part::Sp | Part::Out | Part::Help => true,
+            _ => false,
+        },
+        Command::Version => match part {
+            Part::Help => true,
+            _ => false,
+        },
+        Command::Help => match part {
+            Part::Help => true,
+            _ => false,
+        },
+    }
+}
+
+// The kind of a value; an option without one stands alone.
+pub enum Kind {
+    Alone,
+    Path,
+    Address,
+    Number,
+    Power,
+}
+
+// Which value a plain word is, and which comes after an option.
+pub fn kind_of(part: Part) -> Kind
+    ensures { λ r. ⌜ r ≡ kindOf part ⌝ }
+{
+    match part {
+        Part::Image => Kind::Path,
+        Part::First => Kind::Address,
+        Part::Last => Kind::Address,
+        Part::At => Kind::Address,
+        Part::State => Kind::Power,
+        Part::Pc => Kind::Address,
+        Part::Sp => Kind::Address,
+        Part::Steps => Kind::Number,
+        Part::Out => Kind::Path,
+        Part::Marks => Kind::Alone,
+        Part::Map => Kind::Alone,
+        Part::Trace => Kind::Alone,
+        Part::Help => Kind::Alone,
+    }
+}
+
+pub fn is_alone(kind: Kind) -> bool
+    ensures { λ r. ⌜ r ≡ isAlone kind ⌝ }
+{
+    match kind {
+        Kind::Alone => true,
+        Kind::Path => false,
+        Kind::Address => false,
+        Kind::Number => false,
+        Kind::Power => false,
+    }
+}
+
+// What a word names. The numbers are those of the lines in front.
+pub enum NamedCommand {
+    Is(Command),
+    Unknown,
+}
+
+pub fn command_named(word: &[u8]) -> NamedCommand
+    ensures { λ r. ⌜ r ≡ commandNamed (now (word .entry)) ⌝ }
+{
+    match number_of(
+        b"screen\nrun\nstep\nversion --version\nhelp --help -h",
+        word,
+    ) {
+        1 => NamedCommand::Is(Command::Screen),
+        2 => NamedCommand::Is(Command::Run),
+        3 => NamedCommand::Is(Command::Step),
+        4 => NamedCommand::Is(Command::Version),
+        5 => NamedCommand::Is(Command::Help),
+        _ => NamedCommand::Unknown,
+    }
+}
+
+pub enum NamedOption {
+    Is(Part),
+    Unknown,
+}
+
+pub fn option_named(word: &[u8]) -> NamedOption
+    ensures { λ r. ⌜ r ≡ optionNamed (now (word .entry)) ⌝ }
+{
+    match number_of(
+        b"--at\n--state\n--pc\n--sp\n--steps\n--out\n--marks\n--map\n--trace\n--help -h",
+        word,
+    ) {
+        1 => NamedOption::Is(Part::At),
+        2 => NamedOption::Is(Part::State),
+        3 => NamedOption::Is(Part::Pc),
+        4 => NamedOption::Is(Part::Sp),
+        5 => NamedOption::Is(Part::Steps),
+        6 => NamedOption::Is(Part::Out),
+        7 => NamedOption::Is(Part::Marks),
+        8 => NamedOption::Is(Part::Map),
+        9 => NamedOption::Is(Part::Trace),
+        10 => NamedOption::Is(Part::Help),
+        _ => NamedOption::Unknown,
+    }
+}
+
+pub enum NamedPower {
+    Is(Power),
+    Unknown,
+}
+
+pub fn power_named(word: &[u8]) -> NamedPower
+    ensures { λ r. ⌜ r ≡ powerNamed (now (word .entry)) ⌝ }
+{
+    match number_of(b"dmg\ncgb\ncgb-dmg\nzero", word) {
+        1 => NamedPower::Is(Power::Dmg),
+        2 => NamedPower::Is(Power::Cgb),
+        3 => NamedPower::Is(Power::CgbDmg),
+        4 => NamedPower::Is(Power::Zero),
+        _ => NamedPower::Unknown,
+    }
+}

@@ -1,0 +1,153 @@
+// What the words of a command line have said so far.
+ghost use mathlib.Core.Path.{_≡_};
+ghost use Prim.Native.Nat.{_<_};
+ghost use Rattle.commandline.specs.Grammar.{place, parts};
+ghost use Rattle.commandline.specs.Given.{isGiven, wordOr, addressOr, numberOr, powerOr};
+ghost use Rattle.commandline.specs.Line.{empty, saidOf, withStage, kept};
+use crate::given::Given;
+use crate::given::address_or;
+use crate::given::is_given;
+use crate::given::number_or;
+use crate::given::power_or;
+use crate::given::word_or;
+use crate::grammar::Command;
+use crate::grammar::Part;
+use crate::grammar::Plain;
+use crate::grammar::Power;
+use number::Fault;
+
+// What is wrong with a line: what it is about, and the index of the word.
+pub enum Mistake {
+    NoCommand,
+    UnknownCommand(usize),
+    UnknownOption(usize),
+    NotHere(usize),
+    Twice(usize),
+    NoValue(Part),
+    TooMany(usize),
+    NotGiven(Part),
+    UnknownPower(Part, usize),
+    Reversed,
+    BadNumber(Part, usize, Fault),
+    AddressTooLarge(Part, usize),
+}
+
+// Which word may come next: the command; an option, or the first of the plain words that are left; the value of an option. After a
+// mistake none does.
+pub enum Stage {
+    Start,
+    Takes(Command, Plain),
+    Awaits(Command, Plain, Part),
+    Wrong(Mistake),
+}
+
+// How many parts there are.
+const PARTS: usize = 13;
+
+// An array in a struct holds structs, for the prover, and no enums.
+pub struct Cell {
+    pub given: Given,
+}
+
+pub struct Line {
+    pub stage: Stage,
+    cells: [Cell; PARTS],
+}
+
+// Where a part is kept.
+fn place(part: Part) -> usize
+    ensures { λ r. ⌜ (r ≡ place part) × (r < parts) ⌝ }
+{
+    match part {
+        Part::Image => 0,
+        Part::First => 1,
+        Part::Last => 2,
+        Part::At => 3,
+        Part::State => 4,
+        Part::Pc => 5,
+        Part::Sp => 6,
+        Part::Steps => 7,
+        Part::Out => 8,
+        Part::Marks => 9,
+        Part::Map => 10,
+        Part::Trace => 11,
+        Part::Help => 12,
+    }
+}
+
+impl Line {
+    pub fn new() -> Self
+        ensures { λ r. ⌜ r ≡ empty ⌝ }
+    {
+        let none = Cell {
+            given: Given::Nothing,
+        };
+        let cells = [none; PARTS];
+        Line {
+            stage: Stage::Start,
+            cells: cells,
+        }
+    }
+
+    pub fn given(self, part: Part) -> Given
+        ensures { λ r. ⌜ r ≡ saidOf self part ⌝ }
+    {
+        let cells = self.cells;
+        let i = place(part);
+        let cell = cells[i];
+        cell.given
+    }
+
+    pub fn has(self, part: Part) -> bool
+        ensures { λ r. ⌜ r ≡ isGiven (saidOf self part) ⌝ }
+    {
+        is_given(self.given(part))
+    }
+
+    pub fn word(self, part: Part, other: usize) -> usize
+        ensures { λ r. ⌜ r ≡ wordOr (saidOf self part) other ⌝ }
+    {
+        word_or(self.given(part), other)
+    }
+
+    pub fn address(self, part: Part, other: u16) -> u16
+        ensures { λ r. ⌜ r ≡ addressOr (saidOf self part) other ⌝ }
+    {
+        address_or(self.given(part), other)
+    }
+
+    pub fn number(self, part: Part, other: u64) -> u64
+        ensures { λ r. ⌜ r ≡ numberOr (saidOf self part) other ⌝ }
+    {
+        number_or(self.given(part), other)
+    }
+
+    pub fn power(self, part: Part, other: Power) -> Power
+        ensures { λ r. ⌜ r ≡ powerOr (saidOf self part) other ⌝ }
+    {
+        power_or(self.given(part), other)
+    }
+
+    pub fn with_stage(self, stage: Stage) -> Self
+        ensures { λ r. ⌜ r ≡ withStage self stage ⌝ }
+    {
+        let cells = self.cells;
+        Line {
+            stage: stage,
+            cells: cells,
+        }
+    }
+
+    pub fn kept(self, part: Part, given: Given, stage: Stage) -> Self
+        ensures { λ r. ⌜ r ≡ kept self part given stage ⌝ }
+    {
+        let mut cells = self.cells;
+        let i = place(part);
+        let cell = Cell { given: given };
+        cells[i] = cell;
+        Line {
+            stage: stage,
+            cells: cells,
+        }
+    }
+}

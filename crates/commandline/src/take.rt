@@ -1,0 +1,180 @@
+// One word of a command line. The first mistake stays.
+ghost use mathlib.Core.Path.{_≡_};
+ghost use Rattle.number.specs.Number.{numberIn};
+ghost use Rattle.commandline.specs.Grammar.{kindOf, commandNamed, optionNamed, powerNamed};
+ghost use Rattle.commandline.specs.Take.{asNumber, inRange, asAddress, asPower, valueIn, takeValue, takeOption, takeDashed, takePlain, takeCommand, isDashed, takeNext, takeWord};
+use crate::given::Given;
+use crate::grammar::Command;
+use crate::grammar::Kind;
+use crate::grammar::NamedCommand;
+use crate::grammar::NamedOption;
+use crate::grammar::NamedPower;
+use crate::grammar::Part;
+use crate::grammar::Plain;
+use crate::grammar::allows;
+use crate::grammar::command_named;
+use crate::grammar::is_alone;
+use crate::grammar::kind_of;
+use crate::grammar::option_named;
+use crate::grammar::plain_of;
+use crate::grammar::power_named;
+use crate::line::Line;
+use crate::line::Mistake;
+use crate::line::Stage;
+use number::Number;
+use number::number_in;
+
+// A word read as a value.
+pub enum Read {
+    As(Given),
+    Not(Mistake),
+}
+
+fn as_number(part: Part, index: usize, number: Number) -> Read
+    ensures { λ r. ⌜ r ≡ asNumber part index number ⌝ }
+{
+    match number {
+        Number::Is(n) => Read::As(Given::Number(n)),
+        Number::Not(fault) => Read::Not(Mistake::BadNumber(part, index, fault)),
+    }
+}
+
+fn in_range(part: Part, index: usize, n: u64) -> Read
+    ensures { λ r. ⌜ r ≡ inRange part index n ⌝ }
+{
+    let large = 65535 < n;
+    if large {
+        return Read::Not(Mistake::AddressTooLarge(part, index));
+    }
+    Read::As(Given::Address(n as u16))
+}
+
+fn as_address(part: Part, index: usize, number: Number) -> Read
+    ensures { λ r. ⌜ r ≡ asAddress part index number ⌝ }
+{
+    match number {
+        Number::Is(n) => in_range(part, index, n),
+        Number::Not(fault) => Read::Not(Mistake::BadNumber(part, index, fault)),
+    }
+}
+
+fn as_power(part: Part, index: usize, named: NamedPower) -> Read
+    ensures { λ r. ⌜ r ≡ asPower part index named ⌝ }
+{
+    match named {
+        NamedPower::Is(power) => Read::As(Given::Power(power)),
+        NamedPower::Unknown => Read::Not(Mistake::UnknownPower(part, index)),
+    }
+}
+
+// A word as the value of a part.
+fn value_in(kind: Kind, part: Part, word: &[u8], index: usize) -> Read
+    ensures { λ r. ⌜ r ≡ valueIn kind part (now (word .entry)) index ⌝ }
+{
+    match kind {
+        Kind::Alone => Read::As(Given::Alone),
+        Kind::Path => Read::As(Given::Word(index)),
+        Kind::Address => as_address(part, index, number_in(word)),
+        Kind::Number => as_number(part, index, number_in(word)),
+        Kind::Power => as_power(part, index, power_named(word)),
+    }
+}
+
+// A value for a part; the line then stands at `after`.
+fn take_value(line: Line, after: Stage, part: Part, word: &[u8], index: usize) -> Line
+    ensures { λ r. ⌜ r ≡ takeValue line after part (now (word .entry)) index ⌝ }
+{
+    match value_in(kind_of(part), part, word, index) {
+        Read::As(given) => line.kept(part, given, after),
+        Read::Not(mistake) => line.with_stage(Stage::Wrong(mistake)),
+    }
+}
+
+fn take_option(line: Line, command: Command, plain: Plain, part: Part, index: usize) -> Line
+    ensures { λ r. ⌜ r ≡ takeOption line command plain part index ⌝ }
+{
+    let allowed = allows(command, part);
+    let no_place = !allowed;
+    if no_place {
+        return line.with_stage(Stage::Wrong(Mistake::NotHere(index)));
+    }
+    let given = line.has(part);
+    if given {
+        return line.with_stage(Stage::Wrong(Mistake::Twice(index)));
+    }
+    let alone = is_alone(kind_of(part));
+    if alone {
+        return line.kept(part, Given::Alone, Stage::Takes(command, plain));
+    }
+    line.with_stage(Stage::Awaits(command, plain, part))
+}
+
+// A word that begins with -.
+fn take_dashed(line: Line, command: Command, plain: Plain, word: &[u8], index: usize) -> Line
+    ensures { λ r. ⌜ r ≡ takeDashed line command plain index (optionNamed (now (word .entry))) ⌝ }
+{
+    match option_named(word) {
+        NamedOption::Is(part) => take_option(line, command, plain, part, index),
+        NamedOption::Unknown => line.with_stage(Stage::Wrong(Mistake::UnknownOption(index))),
+    }
+}
+
+fn take_plain(line: Line, command: Command, plain: Plain, word: &[u8], index: usize) -> Line
+    ensures { λ r. ⌜ r ≡ takePlain line command plain (now (word .entry)) index ⌝ }
+{
+    match plain {
+        Plain::Nothing => line.with_stage(Stage::Wrong(Mistake::TooMany(index))),
+        Plain::One(a) => take_value(line, Stage::Takes(command, Plain::Nothing), a, word, index),
+        Plain::Two(a, b) => take_value(line, Stage::Takes(command, Plain::One(b)), a, word, index),
+        Plain::Three(a, b, c) => {
+            take_value(
+                line,
+                Stage::Takes(command, Plain::Two(b, c)),
+                a,
+                word,
+                index,
+            )
+        }
+    }
+}
+
+fn take_command(line: Line, word: &[u8], index: usize) -> Line
+    ensures { λ r. ⌜ r ≡ takeCommand line index (commandNamed (now (word .entry))) ⌝ }
+{
+    match command_named(word) {
+        NamedCommand::Is(command) => line.with_stage(Stage::Takes(command, plain_of(command))),
+        NamedCommand::Unknown => line.with_stage(Stage::Wrong(Mistake::UnknownCommand(index))),
+    }
+}
+
+fn is_dashed(word: &[u8]) -> bool
+    ensures { λ r. ⌜ r ≡ isDashed (now (word .entry)) ⌝ }
+{
+    let some = 0 < word.len();
+    if some { word[0] == b'-' } else { false }
+}
+
+// An option or a plain word.
+fn take_next(line: Line, command: Command, plain: Plain, word: &[u8], index: usize) -> Line
+    ensures { λ r. ⌜ r ≡ takeNext line command plain (now (word .entry)) index ⌝ }
+{
+    let dashed = is_dashed(word);
+    if dashed {
+        return take_dashed(line, command, plain, word, index);
+    }
+    take_plain(line, command, plain, word, index)
+}
+
+pub fn take(line: Line, word: &[u8], index: usize) -> Line
+    ensures { λ r. ⌜ r ≡ takeWord line (now (word .entry)) index ⌝ }
+{
+    let stage = line.stage;
+    match stage {
+        Stage::Start => take_command(line, word, index),
+        Stage::Takes(command, plain) => take_next(line, command, plain, word, index),
+        Stage::Awaits(command, plain, part) => {
+            take_value(line, Stage::Takes(command, plain), part, word, index)
+        }
+        Stage::Wrong(_) => line,
+    }
+}

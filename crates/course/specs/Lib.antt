@@ -1,0 +1,2 @@
+-- What a command line asks of a run.
+pub mod Start

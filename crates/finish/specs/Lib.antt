@@ -1,2 +1,0 @@
--- What a command line lacks, and its end.
-pub mod Finish

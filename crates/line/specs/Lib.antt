@@ -1,2 +1,0 @@
--- What a command line has said.
-pub mod Line

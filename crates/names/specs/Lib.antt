@@ -1,2 +1,0 @@
--- The words that the tool knows.
-pub mod Names

@@ -1,2 +1,0 @@
--- What a word says as a value.
-pub mod Value
