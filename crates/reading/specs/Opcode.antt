@@ -2,7 +2,7 @@
 use mathlib.Core.Bool.{Bool, false, not}
 use Prim.Native.Nat.{ℕ}
 use Rattle.opcodes.specs.Instruction.{decode}
-use Rattle.routine.specs.Flow.{Flow, flowOf, jumpsWhere}
+use Rattle.routine.specs.Flow.{Flow, classOf, flowOf, jumpsWhere}
 
 -- with no address marked, 10 refuses "JP or JR, conditional or not", and nothing else
 abbrev pub goesSomewhere : Flow → Bool
@@ -10,4 +10,4 @@ goesSomewhere f = not (jumpsWhere (λ t. false) f)
 
 -- at any address, with any two bytes after it
 unfoldable pub isJump : ℕ → Bool
-isJump b = goesSomewhere (flowOf (decode b) 0 0 0)
+isJump b = goesSomewhere (flowOf (classOf (decode b)) 0 0 0)

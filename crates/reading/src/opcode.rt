@@ -1,13 +1,13 @@
 // Length of the instruction that a byte starts, and whether it is a jump.
 ghost use mathlib.Core.Path.{_≡_};
 ghost use Rattle.opcodes.specs.Instruction.{decode, lengthOf};
-ghost use Rattle.shapes.specs.Class.{flowOfClass};
+ghost use Rattle.routine.specs.Flow.{flowOf};
 ghost use Rattle.reading.specs.Opcode.{goesSomewhere, isJump};
-use shapes::class::Class;
+use routine::Class;
 use shapes::class::shape_of;
 
 fn jumps(class: Class) -> bool
-    ensures { λ r. ⌜ r ≡ goesSomewhere (flowOfClass class 0 0 0) ⌝ }
+    ensures { λ r. ⌜ r ≡ goesSomewhere (flowOf class 0 0 0) ⌝ }
 {
     match class {
         Class::Plain => false,

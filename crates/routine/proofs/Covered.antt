@@ -9,7 +9,7 @@ use Rattle.definition.specs.Bus.{Bus, byteAt}
 use Rattle.sm83.specs.State.{pc, flags}
 use Rattle.opcodes.specs.Instruction.{decode}
 use Rattle.definition.specs.Step.{stepTree, Admission, accepted, admission, admitted, stepOn}
-use Rattle.routine.specs.Flow.{instructionAt, flowAt, returns}
+use Rattle.routine.specs.Flow.{instructionAt, returns}
 use Rattle.routine.specs.Rules.{Start, Rules}
 use Rattle.routine.specs.Trace.{Quiet, Fine, spares, Pending, pendingAfter, sparesPending, instructionFrom, returnsHome, SameWindow, SamePending}
 use Rattle.routine.proofs.Calm.{Calm}
@@ -67,10 +67,9 @@ module _ {W : Type 0} {b : Bus W} {screened : List ℕ} {first n : ℕ} (passed 
   here = c .shows (pc s) (not-before screened first n (c .at-start)) (within screened first n (c .at-start))
 
   pending-after : T (sparesPending l (stepOn b s m .accesses)) → MayBePending b screened (stepOn b s m .value .cpu) (stepOn b s m .memory) (pendingAfter (instructionFrom b s m) s l)
-  unfolding flowAt
   pending-after spared =
       subst⁻¹ (λ (x : ℕ). MayBePending b screened (stepOn b s m .value .cpu) (stepOn b s m .memory) (pendingAfter (decode x) s l)) here
-      (still-none b screened (instructionAt screened (pc s)) (pc s) _ _ s _ m _ l (passed .rules .allowed (pc s) (c .at-start)) (c .calls-pending))
+      (still-none b screened (instructionAt screened (pc s)) s _ m _ l (passed .rules .allowed (pc s) (c .at-start)) (c .calls-pending))
 
   -- "until a return is taken or a step writes into the routine"
   pub step-stays : T (returnsHome b s m l) → T (spares first n (stepOn b s m .accesses)) → T (sparesPending l (stepOn b s m .accesses)) → Covered b screened first n (stepOn b s m .value .cpu) (stepOn b s m .memory) (pendingAfter (instructionFrom b s m) s l)

@@ -12,7 +12,7 @@ use Rattle.sm83.specs.declared.Addr.{Addr}
 use Rattle.verdict.specs.declared.ScreenRefusal.{ScreenRefusal}
 use Rattle.verdict.specs.declared.Verdict.{Verdict}
 use Rattle.verdict.specs.declared.Verdict.the-variants.{Passes, Refused, RefusedAt}
-use Rattle.routine.specs.Flow.{flowAt, past, endsRoutine}
+use Rattle.routine.specs.Flow.{classAt, past, endsRoutine}
 use Rattle.routine.specs.Rules.{Start, at-first, after, Rules}
 use Rattle.routine.specs.Screen.{marksOf, isMarked, tests, findings, verdict}
 use Rattle.routine.proofs.Starts.{start-high}
@@ -56,22 +56,22 @@ module _ {m : List ℕ} {first end : ℕ} (rules : Rules m first end) where
   no-finding {r} {a} f = let b : Broken m first end r a = breaks m first end f in b .wrong (asked-of-all rules (b .round) a (b .lowest .start))
 
   -- what does not end the routine is followed by a start
-  pub onward : {a : ℕ} → Start m first end a → T (not (endsRoutine (flowAt m a))) → Start m first end (past m a)
+  pub onward : {a : ℕ} → Start m first end a → T (not (endsRoutine (classAt m a))) → Start m first end (past m a)
   onward {a} s goes-on = go (eq-or-lt-of-le (rules .fits a s))
     where
       go : (past m a ≡ end) ⊎ (past m a < end) → Start m first end (past m a)
-      go (inl last) = absurd (T-not (endsRoutine (flowAt m a)) goes-on (rules .ends a s last))
+      go (inl last) = absurd (T-not (endsRoutine (classAt m a)) goes-on (rules .ends a s last))
       go (inr low) = after s low
 
   -- there is a last instruction, so 9 speaks of one
-  pub last-instruction : first < end → (a : ℕ) × Start m first end a × (past m a ≡ end) × T (endsRoutine (flowAt m a))
+  pub last-instruction : first < end → (a : ℕ) × Start m first end a × (past m a ≡ end) × T (endsRoutine (classAt m a))
   last-instruction low = from end first (at-first low) (omega arith)
     where
-      from : (fuel a : ℕ) → Start m first end a → end ≤ a + fuel → (b : ℕ) × Start m first end b × (past m b ≡ end) × T (endsRoutine (flowAt m b))
+      from : (fuel a : ℕ) → Start m first end a → end ≤ a + fuel → (b : ℕ) × Start m first end b × (past m b ≡ end) × T (endsRoutine (classAt m b))
       from zero a s near = absurd (omega (arith, start-high s))
       from (suc fuel) a s near = go (eq-or-lt-of-le (rules .fits a s)) (λ low. from fuel (past m a) (after s low) (omega arith))
         where
-          go : (past m a ≡ end) ⊎ (past m a < end) → (past m a < end → (b : ℕ) × Start m first end b × (past m b ≡ end) × T (endsRoutine (flowAt m b))) → (b : ℕ) × Start m first end b × (past m b ≡ end) × T (endsRoutine (flowAt m b))
+          go : (past m a ≡ end) ⊎ (past m a < end) → (past m a < end → (b : ℕ) × Start m first end b × (past m b ≡ end) × T (endsRoutine (classAt m b))) → (b : ℕ) × Start m first end b × (past m b ≡ end) × T (endsRoutine (classAt m b))
           go (inl last) rest = (a, s, last, rules .ends a s last)
           go (inr low) rest = rest low
 

@@ -11,7 +11,7 @@ use Rattle.verdict.specs.declared.Verdict.{Verdict}
 use Rattle.verdict.specs.declared.Verdict.the-variants.{Passes, Refused, RefusedAt}
 use Rattle.verdict.specs.Numbers.{numberOf}
 use Rattle.sm83.specs.Basics.{if_then_else_}
-use Rattle.routine.specs.Flow.{flowAt, past, isForbidden, endsRoutine}
+use Rattle.routine.specs.Flow.{classAt, past, isForbidden, endsRoutine}
 use Rattle.routine.specs.Rules.{Start, JumpsTo}
 
 -- A round of tests over the starts of a window: what it asks of a start, and what it refuses one with.
@@ -31,10 +31,10 @@ roundAt r (s ∷ l) (suc k) = roundAt s l k
 module _ (m : List ℕ) (first end : ℕ) where
   -- of an address: 7 and 8 find nothing; 9 finds nothing; 10 finds nothing
   abbrev pub Sound : ℕ → Type 0
-  Sound a = T (not (isForbidden (flowAt m a))) × (past m a ≤ end)
+  Sound a = T (not (isForbidden (classAt m a))) × (past m a ≤ end)
 
   abbrev pub Stops : ℕ → Type 0
-  Stops a = past m a ≡ end → T (endsRoutine (flowAt m a))
+  Stops a = past m a ≡ end → T (endsRoutine (classAt m a))
 
   abbrev pub JumpsToStarts : ℕ → Type 0
   JumpsToStarts a = (t : ℕ) → JumpsTo m a t → Start m first end t
@@ -42,7 +42,7 @@ module _ (m : List ℕ) (first end : ℕ) where
   -- "At each start 7 is tested before 8, and the first finding by address wins. After the walk comes 9 .. Then 10, lowest jump first."
   abbrev rounds : ℕ → Round
   rounds =
-      roundAt (round Sound (λ a. if isForbidden (flowAt m a) then ForbiddenOpcode else PastTheEnd))
+      roundAt (round Sound (λ a. if isForbidden (classAt m a) then ForbiddenOpcode else PastTheEnd))
       (round Stops (λ a. FallsThrough)
       ∷ round JumpsToStarts (λ a. JumpUnmarked)
       ∷ [])
@@ -72,11 +72,11 @@ module _ (m : List ℕ) (first end : ℕ) where
 
   pub data Finding : ScreenRefusal → ℕ → Type 0 where
     -- 7: "forbidden opcode"
-    forbidden : {a : ℕ} → Lowest 0 a → T (isForbidden (flowAt m a)) → Finding ForbiddenOpcode a
+    forbidden : {a : ℕ} → Lowest 0 a → T (isForbidden (classAt m a)) → Finding ForbiddenOpcode a
     -- 8: "instruction runs past the window's end"
-    runs-past : {a : ℕ} → Lowest 0 a → T (not (isForbidden (flowAt m a))) → end < past m a → Finding PastTheEnd a
+    runs-past : {a : ℕ} → Lowest 0 a → T (not (isForbidden (classAt m a))) → end < past m a → Finding PastTheEnd a
     -- 9: "last instruction may fall through"
-    falls-through : {a : ℕ} → Lowest 1 a → past m a ≡ end → T (not (endsRoutine (flowAt m a))) → Finding FallsThrough a
+    falls-through : {a : ℕ} → Lowest 1 a → past m a ≡ end → T (not (endsRoutine (classAt m a))) → Finding FallsThrough a
     -- 10: "JP or JR, conditional or not, to an unmarked address"
     strays : {a t : ℕ} → Lowest 2 a → JumpsTo m a t → (Start m first end t → ⊥) → Finding JumpUnmarked a
 

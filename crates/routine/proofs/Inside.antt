@@ -15,7 +15,7 @@ use Rattle.sm83.specs.State.{pc, flags, setPC, setIme, setLatch, setHalt}
 use Rattle.opcodes.specs.Instruction.{decode, operands}
 use Rattle.definition.specs.Execution.{Does, execute}
 use Rattle.definition.specs.Step.{isAsleep, isBug, step, awake, instruction, fetched, Ended, ended, stepTree}
-use Rattle.routine.specs.Flow.{instructionAt, flowAt, past, endsRoutine, returns}
+use Rattle.routine.specs.Flow.{classAt, instructionAt, flowAt, past, endsRoutine, returns}
 use Rattle.routine.specs.Rules.{Start, at-first, after, Rules}
 use Rattle.routine.specs.Trace.{isFine}
 use Rattle.routine.proofs.Calm.{Ends, Calm, skipped}
@@ -61,10 +61,10 @@ abbrev pub Stepped : List ℕ → ℕ → ℕ → Cpu → Ended → Type 0
 Stepped m first n s e = T (isFine (e .outcome)) × Calm (e .cpu) × (T (not (returns (instructionAt m (pc s)) (flags s))) → Start m first (first + n) (pc (e .cpu)))
 
 module _ (m : List ℕ) (first n : ℕ) (small : first + n ≤ 65536) (rules : Rules m first (first + n)) where
-  goes-on : (a : ℕ) → Start m first (first + n) a → T (not (endsRoutine (flowAt m a))) → Start m first (first + n) (past m a)
+  goes-on : (a : ℕ) → Start m first (first + n) a → T (not (endsRoutine (classAt m a))) → Start m first (first + n) (past m a)
   goes-on a start h =
       let fits : past m a ≤ first + n = rules .fits a start in
-      let inner : past m a ≢ first + n = λ last. T-not (endsRoutine (flowAt m a)) h (rules .ends a start last) in
+      let inner : past m a ≢ first + n = λ last. T-not (endsRoutine (classAt m a)) h (rules .ends a start last) in
       after start (omega arith)
 
   arrives : (a f to : ℕ) → Start m first (first + n) a → T (not (returns (instructionAt m a) f)) → Leads (instructionAt m a) a (byteAt m (next a)) (byteAt m (next (next a))) f to → Start m first (first + n) to

@@ -4,7 +4,7 @@ use mathlib.Core.Bool.{Bool, not}
 use mathlib.Core.Logic.{_⊎_, inl, inr}
 use Prim.Native.Nat.{ℕ}
 use lib.Dec.{T}
-use Rattle.routine.specs.Flow.{Flow, Next, Barred, Leaves, LeavesOrNext, GoesTo, GoesToOrNext, Calls, CallsOrNext, jumpsWhere}
+use Rattle.routine.specs.Flow.{Flow, Next, Nowhere, Leaves, LeavesOrNext, GoesTo, GoesToOrNext, Calls, CallsOrNext, jumpsWhere}
 
 module _ (p : ℕ → Bool) where
   pub target-passes : {f : Flow} {t : ℕ} → (f ≡ GoesTo t) ⊎ (f ≡ GoesToOrNext t) → T (jumpsWhere p f) → T (p t)
@@ -13,7 +13,7 @@ module _ (p : ℕ → Bool) where
 
   pub target-fails : (f : Flow) → T (not (jumpsWhere p f)) → (t : ℕ) × ((f ≡ GoesTo t) ⊎ (f ≡ GoesToOrNext t)) × T (not (p t))
   target-fails Next h = absurd h
-  target-fails Barred h = absurd h
+  target-fails Nowhere h = absurd h
   target-fails Leaves h = absurd h
   target-fails LeavesOrNext h = absurd h
   target-fails (GoesTo t) h = (t, inl refl, h)

@@ -9,7 +9,7 @@ use Rattle.definition.specs.Bus.{Bus, Access}
 use Rattle.sm83.specs.State.{flags}
 use Rattle.opcodes.specs.Instruction.{Jump, JP-n16, JP-HL, JR-e8, CALL-n16, RET, RETI, JP-cc-n16, JR-cc-e8, CALL-cc-n16, RET-cc, RST-vec}
 use Rattle.opcodes.specs.Instruction.{Instruction, does, goes, CB-prefix, HALT, STOP, EI, LD-B-B, ILLEGAL}
-use Rattle.routine.specs.Flow.{flowOf, isForbidden, returns}
+use Rattle.routine.specs.Flow.{classOf, isForbidden, returns}
 use Rattle.routine.specs.Trace.{calls, Pending, calledFrom, pendingAfter, sparesPending, takesReturn, returnsHome, SamePending}
 
 -- the calls that may be pending in a state, on a memory: the screen lets no call through, so none (02, request 7, says here which)
@@ -17,28 +17,28 @@ abbrev pub MayBePending : {W : Type 0} → Bus W → List ℕ → Cpu → W → 
 MayBePending b screened s m [] = Unit {0}
 MayBePending b screened s m (p ∷ l) = ⊥
 
-jump-calls-not : (j : Jump) (a x y f : ℕ) → T (not (isForbidden (flowOf (goes j) a x y))) → T (not (calls (goes j) f))
-jump-calls-not JP-n16 a x y f h = tt
-jump-calls-not JP-HL a x y f h = tt
-jump-calls-not JR-e8 a x y f h = tt
-jump-calls-not CALL-n16 a x y f h = h
-jump-calls-not RET a x y f h = tt
-jump-calls-not RETI a x y f h = tt
-jump-calls-not (JP-cc-n16 c) a x y f h = tt
-jump-calls-not (JR-cc-e8 c) a x y f h = tt
-jump-calls-not (CALL-cc-n16 c) a x y f h = absurd h
-jump-calls-not (RET-cc c) a x y f h = tt
-jump-calls-not (RST-vec v) a x y f h = tt
+jump-calls-not : (j : Jump) (f : ℕ) → T (not (isForbidden (classOf (goes j)))) → T (not (calls (goes j) f))
+jump-calls-not JP-n16 f h = tt
+jump-calls-not JP-HL f h = tt
+jump-calls-not JR-e8 f h = tt
+jump-calls-not CALL-n16 f h = h
+jump-calls-not RET f h = tt
+jump-calls-not RETI f h = tt
+jump-calls-not (JP-cc-n16 c) f h = tt
+jump-calls-not (JR-cc-e8 c) f h = tt
+jump-calls-not (CALL-cc-n16 c) f h = absurd h
+jump-calls-not (RET-cc c) f h = tt
+jump-calls-not (RST-vec v) f h = tt
 
-calls-not : (i : Instruction) (a x y f : ℕ) → T (not (isForbidden (flowOf i a x y))) → T (not (calls i f))
-calls-not (does w) a x y f h = tt
-calls-not (goes j) a x y f h = jump-calls-not j a x y f h
-calls-not CB-prefix a x y f h = tt
-calls-not HALT a x y f h = tt
-calls-not STOP a x y f h = tt
-calls-not EI a x y f h = tt
-calls-not LD-B-B a x y f h = tt
-calls-not ILLEGAL a x y f h = tt
+calls-not : (i : Instruction) (f : ℕ) → T (not (isForbidden (classOf i))) → T (not (calls i f))
+calls-not (does w) f h = tt
+calls-not (goes j) f h = jump-calls-not j f h
+calls-not CB-prefix f h = tt
+calls-not HALT f h = tt
+calls-not STOP f h = tt
+calls-not EI f h = tt
+calls-not LD-B-B f h = tt
+calls-not ILLEGAL f h = tt
 
 module _ {W : Type 0} (b : Bus W) (screened : List ℕ) where
   none-added : (call return : Bool) (p : Pending) (t : Cpu) (m : W) → T (not call) → MayBePending b screened t m (if call then p ∷ [] else (if return then [] else []))
@@ -47,9 +47,9 @@ module _ {W : Type 0} (b : Bus W) (screened : List ℕ) where
   none-added false false p t m h = tt
 
   -- after an instruction that is not forbidden, in the state and on the memory that it leaves
-  pub still-none : (i : Instruction) (a x y : ℕ) (s t : Cpu) (m m' : W) (l : List Pending) → T (not (isForbidden (flowOf i a x y))) → MayBePending b screened s m l → MayBePending b screened t m' (pendingAfter i s l)
-  still-none i a x y s t m m' [] h none = none-added (calls i (flags s)) (returns i (flags s)) (calledFrom s) t m' (calls-not i a x y (flags s) h)
-  still-none i a x y s t m m' (p ∷ l) h none = absurd none
+  pub still-none : (i : Instruction) (s t : Cpu) (m m' : W) (l : List Pending) → T (not (isForbidden (classOf i))) → MayBePending b screened s m l → MayBePending b screened t m' (pendingAfter i s l)
+  still-none i s t m m' [] h none = none-added (calls i (flags s)) (returns i (flags s)) (calledFrom s) t m' (calls-not i (flags s) h)
+  still-none i s t m m' (p ∷ l) h none = absurd none
 
   -- after a host that spares their bytes
   pub host-leaves : (s : Cpu) (m m' : W) (l : List Pending) → SamePending b l m m' → MayBePending b screened s m l → MayBePending b screened s m' l

@@ -13,7 +13,8 @@ use Rattle.sm83.specs.Basics.{if_then_else_, next}
 use Rattle.definition.specs.Bus.{byteAt}
 use Rattle.opcodes.specs.Arithmetic.{holds}
 use Rattle.opcodes.specs.Instruction.{cNZ, cZ, cNC, cC, decode, lengthOf}
-use Rattle.routine.specs.Flow.{Flow, flowOf, flowAt, isForbidden, endsRoutine, jumpsWhere, returns}
+use Rattle.routine.specs.declared.Class.{Class}
+use Rattle.routine.specs.Flow.{classOf, classAt, flowOf, flowAt, isForbidden, endsRoutine, jumpsWhere, returns}
 use Rattle.routine.specs.Rules.{JumpsTo}
 use Rattle.routine.specs.Trace.{calls}
 use Rattle.routine.proofs.Jumps.{target-passes, target-fails}
@@ -91,27 +92,26 @@ lengthOfByte b = if isOneOf b bytesOfThree then 3 else (if isOneOf b bytesOfTwo 
 
 -- Of the instruction at an address, whatever bytes follow it. A byte is below 256.
 module _ (m : List ℕ) (a : ℕ) (is-byte : byteAt m a < 256) where
-  of-flow : (test : Flow → Bool) (of-byte : ℕ → Bool) → values (λ b. test (flowOf (decode b) a (byteAt m (next a)) (byteAt m (next (next a))))) 256 ≡ values of-byte 256 → test (flowAt m a) ≡ of-byte (byteAt m a)
-  unfolding flowAt
-  of-flow test of-byte e = agree (λ b. test (flowOf (decode b) a (byteAt m (next a)) (byteAt m (next (next a))))) of-byte 256 e (byteAt m a) is-byte
+  of-class : (test : Class → Bool) (of-byte : ℕ → Bool) → values (λ b. test (classOf (decode b))) 256 ≡ values of-byte 256 → test (classAt m a) ≡ of-byte (byteAt m a)
+  of-class test of-byte e = agree (λ b. test (classOf (decode b))) of-byte 256 e (byteAt m a) is-byte
 
-  pub forbidden-bytes : isForbidden (flowAt m a) ≡ isOneOf (byteAt m a) forbiddenBytes
+  pub forbidden-bytes : isForbidden (classAt m a) ≡ isOneOf (byteAt m a) forbiddenBytes
   unfolding decode
-  forbidden-bytes = of-flow isForbidden (λ b. isOneOf b forbiddenBytes) refl
+  forbidden-bytes = of-class isForbidden (λ b. isOneOf b forbiddenBytes) refl
 
-  pub ending-bytes : endsRoutine (flowAt m a) ≡ isOneOf (byteAt m a) endingBytes
+  pub ending-bytes : endsRoutine (classAt m a) ≡ isOneOf (byteAt m a) endingBytes
   unfolding decode
-  ending-bytes = of-flow endsRoutine (λ b. isOneOf b endingBytes) refl
+  ending-bytes = of-class endsRoutine (λ b. isOneOf b endingBytes) refl
 
   pub jumping-bytes : ((t : ℕ) × JumpsTo m a t) ↔ T (isOneOf (byteAt m a) jumpingBytes)
-  unfolding decode
+  unfolding decode flowAt
   jumping-bytes = (
     λ (t, jump). T-not-not (isOneOf (byteAt m a) jumpingBytes) (not-T (not (isOneOf (byteAt m a) jumpingBytes)) (λ h. target-passes (λ x. false) jump (subst⁻¹ T lands-nowhere h))),
     λ h. let (t, jump, none) = target-fails (λ x. false) (flowAt m a) (rw (lands-nowhere, is-true (isOneOf (byteAt m a) jumpingBytes) h) tt) in (t, jump),
   )
     where
       lands-nowhere : jumpsWhere (λ x. false) (flowAt m a) ≡ not (isOneOf (byteAt m a) jumpingBytes)
-      lands-nowhere = of-flow (jumpsWhere (λ x. false)) (λ b. not (isOneOf b jumpingBytes)) refl
+      lands-nowhere = of-class (λ k. jumpsWhere (λ x. false) (flowOf k a (byteAt m (next a)) (byteAt m (next (next a))))) (λ b. not (isOneOf b jumpingBytes)) refl
 
   pub returning-bytes : (f : ℕ) → returns (decode (byteAt m a)) f ≡ returnsByte (byteAt m a) f
   unfolding decode

@@ -10,7 +10,7 @@ use lib.Ieee.Bits.{is-true, is-false}
 use Rattle.verdict.specs.declared.ScreenRefusal.{ScreenRefusal}
 use Rattle.verdict.specs.declared.Verdict.{Verdict}
 use Rattle.verdict.specs.declared.Verdict.the-variants.{Passes, Refused, RefusedAt}
-use Rattle.routine.specs.Flow.{flowAt, isForbidden, endsRoutine}
+use Rattle.routine.specs.Flow.{classAt, isForbidden, endsRoutine}
 use Rattle.routine.specs.Screen.{firstOf}
 use Rattle.routine.proofs.Findings.{Asks, refusalAt, Every, Before, Lowest, Finding, forbidden, runs-past, falls-through, strays, Shows}
 
@@ -48,7 +48,7 @@ module _ (m : List ℕ) (first end : ℕ) where
   broken k low bad same = record { round = k; lowest = low; wrong = bad; name = same }
 
   pub breaks : {r : ScreenRefusal} {a : ℕ} → Finding m first end r a → Broken r a
-  breaks (forbidden {a} low bad) = broken 0 low (λ ok. T-not (isForbidden (flowAt m a)) (ok .0) bad) (rw (is-true (isForbidden (flowAt m a)) bad))
-  breaks (runs-past {a} low allowed far) = broken 0 low (λ ok. omega (arith, ok .1)) (rw (is-false (isForbidden (flowAt m a)) allowed))
-  breaks (falls-through {a} low last bad) = broken 1 low (λ ok. T-not (endsRoutine (flowAt m a)) bad (ok last)) refl
+  breaks (forbidden {a} low bad) = broken 0 low (λ ok. T-not (isForbidden (classAt m a)) (ok .0) bad) (rw (is-true (isForbidden (classAt m a)) bad))
+  breaks (runs-past {a} low allowed far) = broken 0 low (λ ok. omega (arith, ok .1)) (rw (is-false (isForbidden (classAt m a)) allowed))
+  breaks (falls-through {a} low last bad) = broken 1 low (λ ok. T-not (endsRoutine (classAt m a)) bad (ok last)) refl
   breaks (strays {a} {t} low jump none) = broken 2 low (λ ok. none (ok t jump)) refl

@@ -14,7 +14,7 @@ use Rattle.verdict.specs.declared.Verdict.{Verdict}
 use Rattle.sm83.specs.Basics.{if_then_else_}
 use Rattle.routine.specs.declared.Test.{Test}
 use Rattle.routine.specs.declared.Test.the-variants.{Ends, Lands}
-use Rattle.routine.specs.Flow.{flowAt, past, endsRoutine}
+use Rattle.routine.specs.Flow.{classAt, flowAt, past, endsRoutine}
 use Rattle.routine.specs.Rules.{Start}
 use Rattle.routine.specs.Screen.{refusedAt, scan, passes, refusalOf, scanFor, tests}
 use Rattle.routine.proofs.Starts.{start-low, start-high}
@@ -61,9 +61,9 @@ module _ (m : List ℕ) (first end : ℕ) (marked : ℕ → Bool) (is-start : (a
 
   -- 9
   ends-tells : Tells 1 Ends
-  ends-tells = record { right = λ a t last. subst (λ (b : Bool). T (if b then endsRoutine (flowAt m a) else true)) (eq-eqb _ _ last) t; wrong = λ a low t. fails a low (eqb (past m a) end) refl t }
+  ends-tells = record { right = λ a t last. subst (λ (b : Bool). T (if b then endsRoutine (classAt m a) else true)) (eq-eqb _ _ last) t; wrong = λ a low t. fails a low (eqb (past m a) end) refl t }
     where
-      fails : (a : ℕ) → Lowest m first end 1 a → (b : Bool) → eqb (past m a) end ≡ b → T (not (if b then endsRoutine (flowAt m a) else true)) → Finding m first end (refusalOf Ends) a
+      fails : (a : ℕ) → Lowest m first end 1 a → (b : Bool) → eqb (past m a) end ≡ b → T (not (if b then endsRoutine (classAt m a) else true)) → Finding m first end (refusalOf Ends) a
       fails a low true f t = falls-through low (eqb→eq _ end (rw f tt)) t
       fails a low false f t = absurd t
 

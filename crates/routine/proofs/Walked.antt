@@ -10,7 +10,7 @@ use Rattle.verdict.specs.declared.ScreenRefusal.the-variants.{ForbiddenOpcode, 
 use Rattle.verdict.specs.declared.Verdict.{Verdict}
 use Rattle.sm83.specs.Basics.{if_then_else_}
 use Rattle.opcodes.specs.Instruction.{operands}
-use Rattle.routine.specs.Flow.{instructionAt, flowAt, past, isForbidden}
+use Rattle.routine.specs.Flow.{classAt, instructionAt, past, isForbidden}
 use Rattle.routine.specs.Rules.{Start, at-first, after}
 use Rattle.routine.specs.Screen.{refusedAt, walk}
 use Rattle.routine.proofs.Starts.{start-low, start-high, first-or-later}
@@ -58,15 +58,15 @@ module _ (m : List ℕ) (first end : ℕ) where
   unfolding walk
   walks start zero at zero e late r = λ b s. sound-below (r (omega arith)) b s (omega (arith, start-high s))
   walks start (suc k) at zero e late r = late (omega arith)
-  walks start zero at (suc n) e late r = test (subst Reached (omega arith) (r (omega arith))) (isForbidden (flowAt m at)) refl (walks at rest (suc at) n (omega arith))
+  walks start zero at (suc n) e late r = test (subst Reached (omega arith) (r (omega arith))) (isForbidden (classAt m at)) refl (walks at rest (suc at) n (omega arith))
     where
       rest : ℕ
       rest = operands (instructionAt m at)
 
-      test : Reached at → (b : Bool) → isForbidden (flowAt m at) ≡ b → ((end < suc at + rest → Finding m first end PastTheEnd at) → (suc at + rest ≤ end → Reached (suc at + rest)) → Told (walk m at rest (suc at) n)) → Told (if b then refusedAt ForbiddenOpcode at else walk m at rest (suc at) n)
+      test : Reached at → (b : Bool) → isForbidden (classAt m at) ≡ b → ((end < suc at + rest → Finding m first end PastTheEnd at) → (suc at + rest ≤ end → Reached (suc at + rest)) → Told (walk m at rest (suc at) n)) → Told (if b then refusedAt ForbiddenOpcode at else walk m at rest (suc at) n)
       test r true f go = forbidden (lowest (omega arith) r) (rw f tt)
       test r false f go =
-          let ok : T (not (isForbidden (flowAt m at))) = rw f tt in
+          let ok : T (not (isForbidden (classAt m at))) = rw f tt in
           go (λ far. runs-past (lowest (omega arith) r) ok (omega arith))
           (λ fits. subst Reached (omega arith) (reach-next (omega arith) r (ok, omega arith)))
   walks start (suc k) at (suc n) e late r = walks start k (suc at) n (omega arith) (λ far. late (omega arith)) (λ fits. subst Reached (omega arith) (r (omega arith)))

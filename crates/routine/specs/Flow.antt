@@ -7,72 +7,94 @@ use Rattle.definition.specs.Bus.{byteAt}
 use Rattle.opcodes.specs.Arithmetic.{holds}
 use Rattle.opcodes.specs.Instruction.{Jump, JP-n16, JP-HL, JR-e8, CALL-n16, RET, RETI, JP-cc-n16, JR-cc-e8, CALL-cc-n16, RET-cc, RST-vec}
 use Rattle.opcodes.specs.Instruction.{Instruction, does, goes, CB-prefix, HALT, STOP, EI, LD-B-B, ILLEGAL, decode, operands}
+use Rattle.routine.specs.declared.Class.{Class}
+use Rattle.routine.specs.declared.Class.the-variants.{Plain, Barred, Return, ReturnIf, Absolute, AbsoluteIf, Relative, RelativeIf, Call, CallIf}
 
--- on to the next instruction; nowhere that the screen allows; back to the caller, or on; to an address, or on; into a routine, or on
-pub data Flow : Type 0 where
-  Next Barred Leaves LeavesOrNext : Flow
-  GoesTo GoesToOrNext Calls CallsOrNext : ℕ → Flow
+-- "Length and class are decided by ranges of the opcode byte": the class of an instruction
+abbrev pub classOfJump : Jump → Class
+classOfJump JP-n16 = Absolute
+classOfJump JP-HL = Barred
+classOfJump JR-e8 = Relative
+classOfJump CALL-n16 = Call
+classOfJump RET = Return
+classOfJump RETI = Barred
+classOfJump (JP-cc-n16 c) = AbsoluteIf
+classOfJump (JR-cc-e8 c) = RelativeIf
+classOfJump (CALL-cc-n16 c) = CallIf
+classOfJump (RET-cc c) = ReturnIf
+classOfJump (RST-vec v) = Barred
 
--- of a jump at a, with the two bytes after it. "A JR target counts from the byte after the JR, modulo 65,536."
-abbrev pub flowOfJump : Jump → ℕ → ℕ → ℕ → Flow
-flowOfJump JP-n16 a x y = GoesTo (word y x)
-flowOfJump JP-HL a x y = Barred
-flowOfJump JR-e8 a x y = GoesTo (offset (a + 2) x)
-flowOfJump CALL-n16 a x y = Calls (word y x)
-flowOfJump RET a x y = Leaves
-flowOfJump RETI a x y = Barred
-flowOfJump (JP-cc-n16 c) a x y = GoesToOrNext (word y x)
-flowOfJump (JR-cc-e8 c) a x y = GoesToOrNext (offset (a + 2) x)
-flowOfJump (CALL-cc-n16 c) a x y = CallsOrNext (word y x)
-flowOfJump (RET-cc c) a x y = LeavesOrNext
-flowOfJump (RST-vec v) a x y = Barred
-
-abbrev pub flowOf : Instruction → ℕ → ℕ → ℕ → Flow
-flowOf (does w) a x y = Next
-flowOf (goes j) a x y = flowOfJump j a x y
-flowOf CB-prefix a x y = Next
-flowOf HALT a x y = Barred
-flowOf STOP a x y = Barred
-flowOf EI a x y = Barred
-flowOf LD-B-B a x y = Next
-flowOf ILLEGAL a x y = Barred
+abbrev pub classOf : Instruction → Class
+classOf (does w) = Plain
+classOf (goes j) = classOfJump j
+classOf CB-prefix = Plain
+classOf HALT = Barred
+classOf STOP = Barred
+classOf EI = Barred
+classOf LD-B-B = Plain
+classOf ILLEGAL = Barred
 
 abbrev pub instructionAt : List ℕ → ℕ → Instruction
 instructionAt m a = decode (byteAt m a)
 
-unfoldable pub flowAt : List ℕ → ℕ → Flow
-flowAt m a = flowOf (instructionAt m a) a (byteAt m (next a)) (byteAt m (next (next a)))
+abbrev pub classAt : List ℕ → ℕ → Class
+classAt m a = classOf (instructionAt m a)
 
 -- the address past an instruction
 abbrev pub past : List ℕ → ℕ → ℕ
 past m a = a + 1 + operands (instructionAt m a)
 
 -- "Forbidden: the eleven of refusal 3, STOP, HALT, EI, RETI, JP HL, every CALL and RST." (02, request 7 lets CALL through: the last two lines.)
-abbrev pub isForbidden : Flow → Bool
-isForbidden Next = false
+abbrev pub isForbidden : Class → Bool
+isForbidden Plain = false
 isForbidden Barred = true
-isForbidden Leaves = false
-isForbidden LeavesOrNext = false
-isForbidden (GoesTo t) = false
-isForbidden (GoesToOrNext t) = false
-isForbidden (Calls t) = true
-isForbidden (CallsOrNext t) = true
+isForbidden Return = false
+isForbidden ReturnIf = false
+isForbidden Absolute = false
+isForbidden AbsoluteIf = false
+isForbidden Relative = false
+isForbidden RelativeIf = false
+isForbidden Call = true
+isForbidden CallIf = true
 
 -- "the last instruction must be an unconditional JP, JR or RET"
-abbrev pub endsRoutine : Flow → Bool
-endsRoutine Next = false
+abbrev pub endsRoutine : Class → Bool
+endsRoutine Plain = false
 endsRoutine Barred = false
-endsRoutine Leaves = true
-endsRoutine LeavesOrNext = false
-endsRoutine (GoesTo t) = true
-endsRoutine (GoesToOrNext t) = false
-endsRoutine (Calls t) = false
-endsRoutine (CallsOrNext t) = false
+endsRoutine Return = true
+endsRoutine ReturnIf = false
+endsRoutine Absolute = true
+endsRoutine AbsoluteIf = false
+endsRoutine Relative = true
+endsRoutine RelativeIf = false
+endsRoutine Call = false
+endsRoutine CallIf = false
+
+-- the same with the addresses: on to the next instruction; nowhere; back to the caller, or on; to an address, or on; into a routine, or on
+pub data Flow : Type 0 where
+  Next Nowhere Leaves LeavesOrNext : Flow
+  GoesTo GoesToOrNext Calls CallsOrNext : ℕ → Flow
+
+-- from a, with the two bytes after the opcode. "A JR target counts from the byte after the JR, modulo 65,536."
+abbrev pub flowOf : Class → ℕ → ℕ → ℕ → Flow
+flowOf Plain a x y = Next
+flowOf Barred a x y = Nowhere
+flowOf Return a x y = Leaves
+flowOf ReturnIf a x y = LeavesOrNext
+flowOf Absolute a x y = GoesTo (word y x)
+flowOf AbsoluteIf a x y = GoesToOrNext (word y x)
+flowOf Relative a x y = GoesTo (offset (a + 2) x)
+flowOf RelativeIf a x y = GoesToOrNext (offset (a + 2) x)
+flowOf Call a x y = Calls (word y x)
+flowOf CallIf a x y = CallsOrNext (word y x)
+
+unfoldable pub flowAt : List ℕ → ℕ → Flow
+flowAt m a = flowOf (classAt m a) a (byteAt m (next a)) (byteAt m (next (next a)))
 
 -- "JP or JR, conditional or not, to an unmarked address": where it jumps, if it does, passes the test
 abbrev pub jumpsWhere : (ℕ → Bool) → Flow → Bool
 jumpsWhere p Next = true
-jumpsWhere p Barred = true
+jumpsWhere p Nowhere = true
 jumpsWhere p Leaves = true
 jumpsWhere p LeavesOrNext = true
 jumpsWhere p (GoesTo t) = p t

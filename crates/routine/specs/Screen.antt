@@ -13,7 +13,7 @@ use Rattle.sm83.specs.State.{addr}
 use Rattle.opcodes.specs.Instruction.{operands}
 use Rattle.routine.specs.declared.Test.{Test}
 use Rattle.routine.specs.declared.Test.the-variants.{Ends, Lands}
-use Rattle.routine.specs.Flow.{instructionAt, flowAt, past, isForbidden, endsRoutine, jumpsWhere}
+use Rattle.routine.specs.Flow.{classAt, instructionAt, flowAt, past, isForbidden, endsRoutine, jumpsWhere}
 
 abbrev pub refusedAt : ScreenRefusal → ℕ → Verdict
 refusedAt r a = RefusedAt r (addr a)
@@ -33,7 +33,7 @@ walk m start zero at zero = Passes
 walk m start (suc k) at zero = refusedAt PastTheEnd start
 walk m start zero at (suc n) =
     let rest : Verdict = walk m at (operands (instructionAt m at)) (suc at) n in
-    if isForbidden (flowAt m at) then refusedAt ForbiddenOpcode at else rest
+    if isForbidden (classAt m at) then refusedAt ForbiddenOpcode at else rest
 walk m start (suc k) at (suc n) = walk m start k (suc at) n
 
 -- The marks of a window of n bytes, and whether an address is marked.
@@ -48,7 +48,7 @@ isMarked marks first a = leb first a && eqb (getD marks (a - first) 0) 1
 
 abbrev pub passes : Test → List ℕ → (ℕ → Bool) → ℕ → ℕ → Bool
 -- 9: "the last instruction must be an unconditional JP, JR or RET"
-passes Ends m marked end a = if eqb (past m a) end then endsRoutine (flowAt m a) else true
+passes Ends m marked end a = if eqb (past m a) end then endsRoutine (classAt m a) else true
 -- 10: "JP or JR, conditional or not, to an unmarked address"
 passes Lands m marked end a = jumpsWhere marked (flowAt m a)
 

@@ -1,52 +1,66 @@
--- The arms of a match on a number are right by one computed test over all numbers.
-use mathlib.Core.Path.{_≡_}
-use mathlib.Core.Bool.{Bool, not}
-use mathlib.Core.List.{List, [], _∷_, map}
-use Prim.Native.Nat.{ℕ, zero, suc, _<_}
-use native.Mathlib.Omega.{arith}
+-- The arms of a match on a number are right by one computed test of each over all numbers; the single numbers of an arm are read off the function's own code.
+use mathlib.Core.Path.{_≡_, refl}
+use mathlib.Core.Bool.{Bool, true, false, not}
+use mathlib.Core.List.{List, [], _∷_}
+use Prim.Native.Nat.{ℕ, _<_}
 use lib.Dec.{T, not-T}
 use lib.Ieee.Bits.{is-true}
-use lib.ListN.{length, getD}
-use mir.Val.{hasKey}
 use mir.Facts.{T-not-not}
-use types.Run.{OneOf, miss}
+use mir.Syntax.{Body, skip, seq, assign, block, loop, cond, switch, exit, return, call, Arms, arm, default, noDefault}
+use mir.Val.{hasKey}
+use types.Run.{OneOf, hit, miss}
 use Rattle.sm83.specs.Basics.{if_then_else_}
 use Rattle.opcodes.proofs.Tested.{upto, agree}
 
--- Rows of any kind: each takes some numbers and gives a value. If each gives the answer for the numbers that it takes, so does the row at an index.
-module _ {A B : Type 0} (takes : A → ℕ → Bool) (gives : A → B) (answer : ℕ → B) where
-  -- what the rows give where they take a number, and the answer elsewhere
-  abbrev pub given : List A → ℕ → List B
-  given rows t = map (λ (row : A). if takes row t then gives row else answer t) rows
+-- the arms of a match that a function begins with, each by its single numbers
+abbrev numbers : Arms → List (List ℕ)
+numbers (arm ks b rest) = ks ∷ numbers rest
+numbers (default b) = []
+numbers noDefault = []
 
-  abbrev pub wanted : List A → ℕ → List B
-  wanted rows t = map (λ (row : A). answer t) rows
+abbrev pub armsOf : Body → List (List ℕ)
+armsOf skip = []
+armsOf (seq b c) = armsOf b
+armsOf (assign p v) = []
+armsOf (block b) = armsOf b
+armsOf (loop b) = []
+armsOf (cond o b c) = []
+armsOf (switch o arms) = numbers arms
+armsOf (exit n) = []
+armsOf return = []
+armsOf (call f os p) = []
 
-  row-at : (t : ℕ) (rows : List A) (none : A) (i : ℕ) → i < length rows → given rows t ≡ wanted rows t → (if takes (getD rows i none) t then gives (getD rows i none) else answer t) ≡ answer t
-  row-at t [] none i there e = absurd (omega arith)
-  row-at t (row ∷ rows) none zero there e = cc
-  row-at t (row ∷ rows) none (suc i) there e = row-at t rows none i (omega arith) (cc)
+-- what the check knows of a number that is in a range: it is no single number of any arm
+abbrev pub Rest : Type 0 → List (List ℕ) → ℕ → Type 0
+Rest A [] t = A
+Rest A (ks ∷ l) t = Rest (A × (OneOf ks t → ⊥)) l t
 
-  pub row-right : (n : ℕ) (rows : List A) → upto (given rows) n ≡ upto (wanted rows) n → (none : A) (i : ℕ) → i < length rows → (t : ℕ) → t < n → T (takes (getD rows i none) t) → gives (getD rows i none) ≡ answer t
-  row-right n rows right none i there t low takes-it = rw (is-true (takes (getD rows i none) t) takes-it) at (row-at t rows none i there (agree (given rows) (wanted rows) n right t low))
+abbrev pub isSingle : List (List ℕ) → ℕ → Bool
+isSingle [] t = false
+isSingle (ks ∷ l) t = if hasKey ks t then true else isSingle l t
 
--- The single numbers of an arm, and what it gives.
-pub record Arm (B : Type 0) : Type 0 where
-  pub numbers : List ℕ
-  pub value : B
+no-single : (A : Type 0) (l : List (List ℕ)) (t : ℕ) → Rest A l t → A × T (not (isSingle l t))
+no-single A [] t rest = (rest, tt)
+no-single A (ks ∷ l) t rest = with-later (no-single (A × (OneOf ks t → ⊥)) l t rest)
+  where
+    here : (k : Bool) → hasKey ks t ≡ k → (OneOf ks t → ⊥) → T (not (isSingle l t)) → T (not (if k then true else isSingle l t))
+    here true e none later = absurd (none (hit ks t (rw e tt)))
+    here false e none later = later
 
-abbrev pub arm : {B : Type 0} → List ℕ → B → Arm B
-arm ks v = record { numbers = ks; value = v }
+    with-later : (A × (OneOf ks t → ⊥)) × T (not (isSingle l t)) → A × T (not (if hasKey ks t then true else isSingle l t))
+    with-later h = (h .0 .0, here (hasKey ks t) refl (h .0 .1) (h .1))
 
-abbrev pub armTakes : {B : Type 0} → Arm B → ℕ → Bool
-armTakes a t = hasKey (a .numbers) t
+module _ {B : Type 0} (answer : ℕ → B) (n : ℕ) where
+  -- a value where a test takes a number, and the answer elsewhere: the same as the answer everywhere
+  abbrev pub Right : (ℕ → Bool) → B → Type 0
+  Right takes v = upto (λ t. if takes t then v else answer t) n ≡ upto answer n
 
-abbrev pub armGives : {B : Type 0} → Arm B → B
-armGives a = a .value
+  taken : (takes : ℕ → Bool) (v : B) → Right takes v → (t : ℕ) → t < n → T (takes t) → v ≡ answer t
+  taken takes v right t low it = rw (is-true (takes t) it) at (agree (λ t. if takes t then v else answer t) answer n right t low)
 
-module _ {B : Type 0} (answer : ℕ → B) where
-  pub by-number : (n : ℕ) (arms : List (Arm B)) → upto (given armTakes armGives answer arms) n ≡ upto (wanted armTakes armGives answer arms) n → (none : Arm B) (i : ℕ) → i < length arms → (t : ℕ) → t < n → OneOf (getD arms i none .numbers) t → getD arms i none .value ≡ answer t
-  by-number n arms right none i there t low one = row-right armTakes armGives answer n arms right none i there t low (T-not-not (hasKey ks t) (not-T (not (hasKey ks t)) (λ missed. miss ks t missed one)))
-    where
-      ks : List ℕ
-      ks = getD arms i none .numbers
+  -- an arm of single numbers, and one of ranges
+  pub by-number : (ks : List ℕ) (v : B) → Right (hasKey ks) v → (t : ℕ) → t < n → OneOf ks t → v ≡ answer t
+  by-number ks v right t low one = taken (hasKey ks) v right t low (T-not-not (hasKey ks t) (not-T (not (hasKey ks t)) (λ missed. miss ks t missed one)))
+
+  pub by-range : (l : List (List ℕ)) (v : B) → Right (λ t. not (isSingle l t)) v → (t : ℕ) → t < n → Rest (Unit {0}) l t → v ≡ answer t
+  by-range l v right t low rest = taken (λ k. not (isSingle l k)) v right t low (no-single (Unit {0}) l t rest .1)

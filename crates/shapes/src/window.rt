@@ -4,7 +4,7 @@ ghost use Prim.Native.Nat.{_+_, _<_};
 ghost use lib.ListN.{length, replicate};
 ghost use Rattle.sm83.specs.State.{addr};
 ghost use Rattle.routine.specs.Flow.{instructionAt};
-ghost use Rattle.shapes.specs.Class.{shapeOf};
+ghost use Rattle.shapes.specs.Shapes.{shapeOf};
 use crate::class::Shape;
 use crate::class::shape_of;
 use sm83::Addr;

@@ -1,3 +1,4 @@
 -- Laws over plain variables that the functions' proofs cite.
 pub mod Targets
 pub mod Scanning
+pub mod JumpArms

@@ -1,5 +1,5 @@
 -- Where a JP and a JR go, whether an address is marked, and whether the last instruction ends the routine.
-use mathlib.Core.Path.{_≡_, sym, ap}
+use mathlib.Core.Path.{_≡_, ap, _∙_}
 use mathlib.Core.Bool.{Bool, true, false}
 use mathlib.Core.List.{List}
 use Prim.Native.Nat.{ℕ, _+_, _-_, _*_, _%_, _≤_, _<_}
@@ -13,8 +13,7 @@ use Rattle.routine.specs.declared.Test.the-variants.{Ends}
 use Rattle.routine.specs.Flow.{instructionAt, past, endsRoutine}
 use Rattle.routine.specs.Screen.{isMarked, passes}
 use Rattle.shapes.specs.declared.class.Shape.{Shape}
-use Rattle.shapes.specs.Class.{shapeOf, flowOfClass}
-use Rattle.shapes.proofs.Classes.{class-test}
+use Rattle.shapes.specs.Shapes.{shapeOf}
 
 pub absolute-target : (m : List ℕ) (a low high : ℕ) → low ≡ byteAt m ((a + 1) % 65536) → high ≡ byteAt m ((a + 2) % 65536) → high * 256 + low ≡ word (byteAt m (next (next a))) (byteAt m (next a))
 absolute-target m a low high l h =
@@ -40,8 +39,8 @@ module _ (m : List ℕ) (marked : ℕ → Bool) (end a : ℕ) (s : Shape) (read 
   length-here : past m a ≡ a + s .0
   length-here = omega (arith, ap (λ (t : Shape). t .0) read)
 
-  pub last-here : a + s .0 ≡ end → (b : Bool) → ((p u v : ℕ) → b ≡ endsRoutine (flowOfClass (s .1) p u v)) → b ≡ passes Ends m marked end a
-  last-here last b told = rw (eq-eqb (past m a) end (omega (arith, length-here))) (sym (class-test m a s read endsRoutine b told))
+  pub last-here : a + s .0 ≡ end → (b : Bool) → b ≡ endsRoutine (s .1) → b ≡ passes Ends m marked end a
+  last-here last b told = rw (eq-eqb (past m a) end (omega (arith, length-here))) (told ∙ ap (λ (t : Shape). endsRoutine (t .1)) read)
 
   pub not-last : (a + s .0 ≡ end → ⊥) → true ≡ passes Ends m marked end a
   not-last other = rw (ne-eqb (past m a) end (λ e. other (omega (arith, length-here))))

@@ -7,8 +7,9 @@ ghost use Rattle.definition.specs.Bus.{byteAt};
 ghost use Rattle.routine.specs.declared.Test.the-variants.{Ends, Lands};
 ghost use Rattle.routine.specs.Screen.{isMarked, passes, refusalOf, scanFor};
 ghost use Rattle.walks.specs.Parts.{Inside};
+use routine::Class;
 use routine::Test;
-use shapes::class::Class;
+use shapes::class::ends_routine;
 use shapes::window::address;
 use shapes::window::shape_at;
 use sm83::Addr;
@@ -81,7 +82,7 @@ fn ends(mem: &[u8], first: Addr, marks: &[u8], at: Addr) -> bool
     let past = at.0 as usize + shape.0 as usize;
     if past == end {
         let class = shape.1;
-        class.ends_routine()
+        ends_routine(class)
     } else {
         true
     }

@@ -10,7 +10,7 @@ use Rattle.verdict.specs.declared.ScreenRefusal.the-variants.{ForbiddenOpcode, 
 use Rattle.verdict.specs.declared.Verdict.{Verdict}
 use Rattle.verdict.specs.declared.Verdict.the-variants.{Passes}
 use Rattle.opcodes.specs.Instruction.{operands}
-use Rattle.routine.specs.Flow.{instructionAt, flowAt, isForbidden}
+use Rattle.routine.specs.Flow.{classAt, instructionAt, isForbidden}
 use Rattle.routine.specs.Screen.{refusedAt, walk, marksFrom, marksOf, marksAfter}
 use Rattle.routine.proofs.Marks.{marks-length}
 use Rattle.walks.proofs.Steps.{lengthAt, refused-7, refused-8, walk-on, marks-on, marks-of-one}
@@ -37,10 +37,10 @@ module _ (m : List ℕ) (first n : ℕ) where
       }
 
   module _ {at : ℕ} {marks : List ℕ} (r : Reached at marks) (more : at < n) where
-    pub found-7 : isForbidden (flowAt m (first + at)) ≡ true → walk m first 0 first n ≡ refusedAt ForbiddenOpcode (first + at)
+    pub found-7 : isForbidden (classAt m (first + at)) ≡ true → walk m first 0 first n ≡ refusedAt ForbiddenOpcode (first + at)
     found-7 bad = r .walked ∙ refused-7 m first (first + at) (n - at) (omega arith) bad
 
-    module _ (ok : isForbidden (flowAt m (first + at)) ≡ false) where
+    module _ (ok : isForbidden (classAt m (first + at)) ≡ false) where
       pub found-8 : n - at < lengthAt m (first + at) → walk m first 0 first n ≡ refusedAt PastTheEnd (first + at)
       found-8 far = r .walked ∙ refused-8 m first (first + at) (n - at) (omega arith) ok far
 

@@ -7,7 +7,7 @@ use native.Mathlib.Omega.{arith}
 use lib.ListN.{take, drop, replicate}
 use Rattle.verdict.specs.declared.ScreenRefusal.the-variants.{ForbiddenOpcode, PastTheEnd}
 use Rattle.opcodes.specs.Instruction.{operands, lengthOf}
-use Rattle.routine.specs.Flow.{instructionAt, flowAt, isForbidden}
+use Rattle.routine.specs.Flow.{classAt, instructionAt, isForbidden}
 use Rattle.routine.specs.Screen.{refusedAt, walk, marksFrom}
 
 -- what passes over the bytes still to come one by one passes over all of them
@@ -39,19 +39,19 @@ module _ (m : List ℕ) where
   zeros (suc k) at (suc n) low = ap (λ (l : List ℕ). 0 ∷ l) (zeros k (suc at) n (omega arith))
 
   module _ (start at : ℕ) where
-    pub refused-7 : (n : ℕ) → 0 < n → isForbidden (flowAt m at) ≡ true → walk m start 0 at n ≡ refusedAt ForbiddenOpcode at
+    pub refused-7 : (n : ℕ) → 0 < n → isForbidden (classAt m at) ≡ true → walk m start 0 at n ≡ refusedAt ForbiddenOpcode at
     unfolding walk
     refused-7 zero some bad = absurd (omega arith)
     refused-7 (suc n) some bad = rw bad
 
-    pub refused-8 : (n : ℕ) → 0 < n → isForbidden (flowAt m at) ≡ false → n < lengthAt at → walk m start 0 at n ≡ refusedAt PastTheEnd at
+    pub refused-8 : (n : ℕ) → 0 < n → isForbidden (classAt m at) ≡ false → n < lengthAt at → walk m start 0 at n ≡ refusedAt PastTheEnd at
     unfolding walk
     refused-8 zero some ok far = absurd (omega arith)
     refused-8 (suc n) some ok far = rw ok (too-far at (operands (instructionAt m at)) (suc at) n (omega arith))
 
     -- on to the next start
     module _ (to left : ℕ) (e : to ≡ at + lengthAt at) where
-      pub walk-on : (n : ℕ) → n ≡ left + lengthAt at → isForbidden (flowAt m at) ≡ false → walk m start 0 at n ≡ walk m start 0 to left
+      pub walk-on : (n : ℕ) → n ≡ left + lengthAt at → isForbidden (classAt m at) ≡ false → walk m start 0 at n ≡ walk m start 0 to left
       unfolding walk
       walk-on zero h ok = absurd (omega arith)
       walk-on (suc n) h ok = rw ok (pass (walk m at) (λ k a r. refl) (operands (instructionAt m at)) (suc at) n to left (omega arith) (omega arith) ∙ same-start at start to left)

@@ -9,10 +9,9 @@ use Rattle.sm83.specs.declared.Addr.{Addr}
 use Rattle.verdict.specs.declared.ScreenRefusal.the-variants.{ForbiddenOpcode, PastTheEnd}
 use Rattle.verdict.specs.declared.Verdict.the-variants.{RefusedAt}
 use Rattle.sm83.specs.State.{addr}
-use Rattle.routine.specs.Flow.{instructionAt, flowAt, isForbidden}
+use Rattle.routine.specs.Flow.{classAt, instructionAt, isForbidden}
 use Rattle.shapes.specs.declared.class.Shape.{Shape}
-use Rattle.shapes.specs.Class.{shapeOf, flowOfClass}
-use Rattle.shapes.proofs.Classes.{class-test}
+use Rattle.shapes.specs.Shapes.{shapeOf}
 use Rattle.walks.proofs.Steps.{lengthAt}
 use Rattle.walks.proofs.Reached.{Reached, Walked, found-7, found-8, onward}
 
@@ -22,7 +21,7 @@ pub record Turn (m : List ℕ) (first n at : ℕ) (marks : List ℕ) (here : Add
   pub more : at < n
   pub there : here ≡ addr (first + at)
   pub read : s ≡ shapeOf (instructionAt m (here .0))
-  pub told : (p u v : ℕ) → forbidden ≡ isForbidden (flowOfClass (s .1) p u v)
+  pub told : forbidden ≡ isForbidden (s .1)
 
 module _ {m : List ℕ} {first n at : ℕ} {marks : List ℕ} {here : Addr} {s : Shape} {forbidden : Bool} (turn : Turn m first n at marks here s forbidden) where
   shape-there : s ≡ shapeOf (instructionAt m (first + at))
@@ -31,8 +30,8 @@ module _ {m : List ℕ} {first n at : ℕ} {marks : List ℕ} {here : Addr} {s :
   length-there : s .0 ≡ lengthAt m (first + at)
   length-there = ap (λ (t : Shape). t .0) shape-there
 
-  is-forbidden : isForbidden (flowAt m (first + at)) ≡ forbidden
-  is-forbidden = class-test m (first + at) s shape-there isForbidden forbidden (turn .told)
+  is-forbidden : isForbidden (classAt m (first + at)) ≡ forbidden
+  is-forbidden = sym (turn .told ∙ ap (λ (t : Shape). isForbidden (t .1)) shape-there)
 
   pub some-length : 0 < s .0
   some-length = omega (arith, length-there)

@@ -3,6 +3,7 @@ ghost use mathlib.Core.Path.{_≡_};
 ghost use lib.ListN.{length};
 ghost use Rattle.routine.specs.Screen.{walk, marksAfter};
 ghost use Rattle.walks.specs.Parts.{Inside};
+use shapes::class::is_forbidden;
 use shapes::window::address;
 use shapes::window::clear;
 use shapes::window::shape_at;
@@ -25,7 +26,7 @@ pub fn walk(mem: &[u8], first: Addr, marks: &mut [u8]) -> Verdict
         let shape = shape_at(mem, here);
         let length = shape.0 as usize;
         let class = shape.1;
-        let forbidden = class.is_forbidden();
+        let forbidden = is_forbidden(class);
         let too_long = n - at < length;
         if forbidden {
             clear(marks);

@@ -1,15 +1,15 @@
 -- Each arm answers for its class.
 use mathlib.Core.Path.{_≡_, sym, ap}
 use borrow.Author.Needs.{needs}
-use Rattle.shapes.specs.declared.class.Class.{Class}
-use Rattle.shapes.specs.declared.class.Class.the-variants.{Plain, Barred, Return, ReturnIf, Absolute, AbsoluteIf, Relative, RelativeIf, Call, CallIf}
-use Rattle.shapes.specs.Class.{flowOfClass}
+use Rattle.routine.specs.declared.Class.{Class}
+use Rattle.routine.specs.declared.Class.the-variants.{Plain, Barred, Return, ReturnIf, Absolute, AbsoluteIf, Relative, RelativeIf, Call, CallIf}
+use Rattle.routine.specs.Flow.{flowOf}
 use Rattle.reading.specs.Opcode.{goesSomewhere}
 use Rattle.reading.proofs.opcode.jumps.Statement.{statement}
 use Rattle.reading.proofs.opcode.jumps.Tie as tie
 
-of : (k : Class) {class : Class} → class ≡ k → goesSomewhere (flowOfClass k 0 0 0) ≡ goesSomewhere (flowOfClass class 0 0 0)
-of k e = ap (λ (j : Class). goesSomewhere (flowOfClass j 0 0 0)) (sym e)
+of : (k : Class) {class : Class} → class ≡ k → goesSomewhere (flowOf k 0 0 0) ≡ goesSomewhere (flowOf class 0 0 0)
+of k e = ap (λ (j : Class). goesSomewhere (flowOf j 0 0 0)) (sym e)
 
 pub jumps-spec : {M : Type 1} → statement M
 jumps-spec =
