@@ -8,6 +8,7 @@ use Prim.Native.Nat.{ℕ, zero, suc, _+_, _≤_, _<_}
 use native.Mathlib.Nat.{eq-or-lt-of-le}
 use native.Mathlib.Omega.{arith}
 use lib.Dec.{T, T-not}
+use lib.ListN.{length}
 use Rattle.sm83.specs.declared.Addr.{Addr}
 use Rattle.verdict.specs.declared.ScreenRefusal.{ScreenRefusal}
 use Rattle.verdict.specs.declared.Verdict.{Verdict}
@@ -24,7 +25,7 @@ use Rattle.routine.proofs.Scanned.{tests-tell, scans-show}
 
 module _ {m : List ℕ} {first end : ℕ} where
   -- the rules are what the rounds ask of every start
-  kept : Before m first end 3 → Rules m first end
+  kept : Before m first end (suc (length tests)) → Rules m first end
   kept asked = record { allowed = λ a s. asked 0 (omega arith) a s .0; fits = λ a s. asked 0 (omega arith) a s .1; ends = asked 1 (omega arith); lands = λ a t s jump. asked 2 (omega arith) a s t jump }
 
   asked-of-all : Rules m first end → (k : ℕ) → Every m first end (Asks m first end k)
@@ -42,7 +43,7 @@ verdict-shows m first n =
     in-words (verdict m first n)
     (first-shows m first end 0 (findings m marked first n) (λ before. walk-shows m first n, scans-show m first n marked is-start 1 tests (tests-tell m first end marked is-start)) (λ j low. absurd (omega arith)))
   where
-    in-words : (v : Verdict) → Shows m first (first + n) (Before m first (first + n) 3) v → Shows m first (first + n) (Rules m first (first + n)) v
+    in-words : (v : Verdict) → Shows m first (first + n) (Before m first (first + n) (suc (length tests))) v → Shows m first (first + n) (Rules m first (first + n)) v
     in-words Passes asked = kept asked
     in-words (Refused r) none = none
     in-words (RefusedAt r a) finding = finding
