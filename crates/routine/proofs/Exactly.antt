@@ -8,6 +8,7 @@ use Prim.Native.Nat.{ℕ, zero, suc, _+_, _≤_, _<_}
 use native.Mathlib.Nat.{eq-or-lt-of-le}
 use native.Mathlib.Omega.{arith}
 use lib.Dec.{T, T-not}
+use lib.ListN.{length}
 use Rattle.sm83.specs.declared.Addr.{Addr}
 use Rattle.verdict.specs.declared.ScreenRefusal.{ScreenRefusal}
 use Rattle.verdict.specs.declared.Verdict.{Verdict}
@@ -17,15 +18,24 @@ use Rattle.routine.specs.Rules.{Start, at-first, after, Rules}
 use Rattle.routine.specs.Screen.{marksOf, isMarked, tests, findings, verdict}
 use Rattle.routine.proofs.Starts.{start-high}
 use Rattle.routine.proofs.Marks.{marked-start}
-use Rattle.routine.proofs.Findings.{Asks, Every, Before, Finding, Shows}
+use Rattle.routine.proofs.Findings.{Asks, place, Every, Before, Finding, Shows}
 use Rattle.routine.proofs.Rounds.{first-shows, Broken, breaks}
 use Rattle.routine.proofs.Walked.{walk-shows}
 use Rattle.routine.proofs.Scanned.{tests-tell, scans-show}
 
-module _ {m : List ℕ} {first end : ℕ} where
+module _ (m : List ℕ) (first end : ℕ) where
   -- the rules are what the rounds ask of every start
-  kept : Before m first end 3 → Rules m first end
-  kept asked = record { allowed = λ a s. asked 0 (omega arith) a s .0; fits = λ a s. asked 0 (omega arith) a s .1; ends = asked 1 (omega arith); lands = λ a t s jump. asked 2 (omega arith) a s t jump }
+  abbrev at : ℕ → ℕ
+  at = place m first end
+
+  kept : Before m first end (suc (length tests)) → Rules m first end
+  kept asked =
+      record {
+        allowed = λ a s. asked (at 7) (omega arith) a s .0;
+        fits = λ a s. asked (at 7) (omega arith) a s .1;
+        ends = asked (at 9) (omega arith);
+        lands = λ a t s jump. asked (at 10) (omega arith) a s t jump;
+      }
 
   asked-of-all : Rules m first end → (k : ℕ) → Every m first end (Asks m first end k)
   asked-of-all rules zero = λ a s. (rules .allowed a s, rules .fits a s)
@@ -42,8 +52,8 @@ verdict-shows m first n =
     in-words (verdict m first n)
     (first-shows m first end 0 (findings m marked first n) (λ before. walk-shows m first n, scans-show m first n marked is-start 1 tests (tests-tell m first end marked is-start)) (λ j low. absurd (omega arith)))
   where
-    in-words : (v : Verdict) → Shows m first (first + n) (Before m first (first + n) 3) v → Shows m first (first + n) (Rules m first (first + n)) v
-    in-words Passes asked = kept asked
+    in-words : (v : Verdict) → Shows m first (first + n) (Before m first (first + n) (suc (length tests))) v → Shows m first (first + n) (Rules m first (first + n)) v
+    in-words Passes asked = kept m first (first + n) asked
     in-words (Refused r) none = none
     in-words (RefusedAt r a) finding = finding
 
@@ -53,7 +63,7 @@ found m first n r a e = subst (Shows m first (first + n) (Rules m first (first +
 module _ {m : List ℕ} {first end : ℕ} (rules : Rules m first end) where
   -- where the rules are kept there is nothing to find
   pub no-finding : {r : ScreenRefusal} {a : ℕ} → Finding m first end r a → ⊥
-  no-finding {r} {a} f = let b : Broken m first end r a = breaks m first end f in b .wrong (asked-of-all rules (b .round) a (b .lowest .start))
+  no-finding {r} {a} f = let b : Broken m first end r a = breaks m first end f in b .wrong (asked-of-all m first end rules (b .round) a (b .lowest .start))
 
   -- what does not end the routine is followed by a start
   pub onward : {a : ℕ} → Start m first end a → T (not (endsRoutine (classAt m a))) → Start m first end (past m a)

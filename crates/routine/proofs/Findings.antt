@@ -4,7 +4,7 @@ use mathlib.Core.Bool.{not}
 use mathlib.Core.List.{List, [], _∷_}
 use Prim.Native.Nat.{ℕ, zero, suc, _≤_, _<_}
 use native.Mathlib.Omega.{arith}
-use lib.Dec.{T}
+use lib.Dec.{T, eqb}
 use Rattle.verdict.specs.declared.ScreenRefusal.{ScreenRefusal}
 use Rattle.verdict.specs.declared.ScreenRefusal.the-variants.{ForbiddenOpcode, PastTheEnd, FallsThrough, JumpUnmarked}
 use Rattle.verdict.specs.declared.Verdict.{Verdict}
@@ -14,19 +14,24 @@ use Rattle.sm83.specs.Basics.{if_then_else_}
 use Rattle.routine.specs.Flow.{classAt, past, isForbidden, endsRoutine}
 use Rattle.routine.specs.Rules.{Start, JumpsTo}
 
--- A round of tests over the starts of a window: what it asks of a start, and what it refuses one with.
+-- A round of tests over the starts of a window: its number, what it asks of a start, and what it refuses one with.
 pub record Round : Type 1 where
+  pub number : ℕ
   pub asks : ℕ → Type 0
   pub refuses : ℕ → ScreenRefusal
 
-abbrev round : (ℕ → Type 0) → (ℕ → ScreenRefusal) → Round
-round asked refused = record { asks = asked; refuses = refused }
+abbrev round : ℕ → (ℕ → Type 0) → (ℕ → ScreenRefusal) → Round
+round n asked refused = record { number = n; asks = asked; refuses = refused }
 
--- the round at a place, counted from 0; past the last one, that one
+-- Of a round and those after it: the one at a place, and the place of a number. Past the last one, that one.
 abbrev roundAt : Round → List Round → ℕ → Round
 roundAt r [] k = r
 roundAt r (s ∷ l) zero = r
 roundAt r (s ∷ l) (suc k) = roundAt s l k
+
+abbrev placeOf : Round → List Round → ℕ → ℕ
+placeOf r [] n = 0
+placeOf r (s ∷ l) n = if eqb (r .number) n then 0 else suc (placeOf s l n)
 
 module _ (m : List ℕ) (first end : ℕ) where
   -- of an address: 7 and 8 find nothing; 9 finds nothing; 10 finds nothing
@@ -40,18 +45,23 @@ module _ (m : List ℕ) (first end : ℕ) where
   JumpsToStarts a = (t : ℕ) → JumpsTo m a t → Start m first end t
 
   -- "At each start 7 is tested before 8, and the first finding by address wins. After the walk comes 9 .. Then 10, lowest jump first."
-  abbrev rounds : ℕ → Round
+  abbrev walk-round : Round
+  walk-round = round 7 Sound (λ a. if isForbidden (classAt m a) then ForbiddenOpcode else PastTheEnd)
+
+  abbrev rounds : List Round
   rounds =
-      roundAt (round Sound (λ a. if isForbidden (classAt m a) then ForbiddenOpcode else PastTheEnd))
-      (round Stops (λ a. FallsThrough)
-      ∷ round JumpsToStarts (λ a. JumpUnmarked)
-      ∷ [])
+      round 9 Stops (λ a. FallsThrough)
+      ∷ round 10 JumpsToStarts (λ a. JumpUnmarked)
+      ∷ []
 
   abbrev pub Asks : ℕ → ℕ → Type 0
-  Asks k = rounds k .asks
+  Asks k = roundAt walk-round rounds k .asks
 
   abbrev pub refusalAt : ℕ → ℕ → ScreenRefusal
-  refusalAt k = rounds k .refuses
+  refusalAt k = roundAt walk-round rounds k .refuses
+
+  abbrev pub place : ℕ → ℕ
+  place = placeOf walk-round rounds
 
   -- at every start, and at every start below an address
   abbrev pub Every : (ℕ → Type 0) → Type 0
@@ -65,20 +75,23 @@ module _ (m : List ℕ) (first end : ℕ) where
   Before k = (j : ℕ) → j < k → Every (Asks j)
 
   -- nor does this one at a start below
-  pub record Lowest (k a : ℕ) : Type 0 where
+  pub record LowestAt (k a : ℕ) : Type 0 where
     pub start : Start m first end a
     pub earlier : Before k
     pub below : Below a (Asks k)
 
+  abbrev pub Lowest : ℕ → ℕ → Type 0
+  Lowest n = LowestAt (place n)
+
   pub data Finding : ScreenRefusal → ℕ → Type 0 where
     -- 7: "forbidden opcode"
-    forbidden : {a : ℕ} → Lowest 0 a → T (isForbidden (classAt m a)) → Finding ForbiddenOpcode a
+    forbidden : {a : ℕ} → Lowest 7 a → T (isForbidden (classAt m a)) → Finding ForbiddenOpcode a
     -- 8: "instruction runs past the window's end"
-    runs-past : {a : ℕ} → Lowest 0 a → T (not (isForbidden (classAt m a))) → end < past m a → Finding PastTheEnd a
+    runs-past : {a : ℕ} → Lowest 7 a → T (not (isForbidden (classAt m a))) → end < past m a → Finding PastTheEnd a
     -- 9: "last instruction may fall through"
-    falls-through : {a : ℕ} → Lowest 1 a → past m a ≡ end → T (not (endsRoutine (classAt m a))) → Finding FallsThrough a
+    falls-through : {a : ℕ} → Lowest 9 a → past m a ≡ end → T (not (endsRoutine (classAt m a))) → Finding FallsThrough a
     -- 10: "JP or JR, conditional or not, to an unmarked address"
-    strays : {a t : ℕ} → Lowest 2 a → JumpsTo m a t → (Start m first end t → ⊥) → Finding JumpUnmarked a
+    strays : {a t : ℕ} → Lowest 10 a → JumpsTo m a t → (Start m first end t → ⊥) → Finding JumpUnmarked a
 
   -- no other number comes with an address
   pub numbered : {r : ScreenRefusal} {a : ℕ} → Finding r a → (7 ≤ numberOf r) × (numberOf r ≤ 10)

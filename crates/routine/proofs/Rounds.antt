@@ -12,7 +12,7 @@ use Rattle.verdict.specs.declared.Verdict.{Verdict}
 use Rattle.verdict.specs.declared.Verdict.the-variants.{Passes, Refused, RefusedAt}
 use Rattle.routine.specs.Flow.{classAt, isForbidden, endsRoutine}
 use Rattle.routine.specs.Screen.{firstOf}
-use Rattle.routine.proofs.Findings.{Asks, refusalAt, Every, Before, Lowest, Finding, forbidden, runs-past, falls-through, strays, Shows}
+use Rattle.routine.proofs.Findings.{Asks, refusalAt, place, Every, Before, LowestAt, Finding, forbidden, runs-past, falls-through, strays, Shows}
 
 module _ (m : List ℕ) (first end : ℕ) where
   further : (k : ℕ) → Before m first end k → Every m first end (Asks m first end k) → Before m first end (suc k)
@@ -40,15 +40,18 @@ module _ (m : List ℕ) (first end : ℕ) where
   -- a finding is the lowest of its round, which asks otherwise there, and has the round's number
   pub record Broken (r : ScreenRefusal) (a : ℕ) : Type 0 where
     pub round : ℕ
-    pub lowest : Lowest m first end round a
+    pub lowest : LowestAt m first end round a
     pub wrong : Asks m first end round a → ⊥
     pub name : r ≡ refusalAt m first end round a
 
-  broken : {r : ScreenRefusal} {a : ℕ} (k : ℕ) → Lowest m first end k a → (Asks m first end k a → ⊥) → r ≡ refusalAt m first end k a → Broken r a
+  broken : {r : ScreenRefusal} {a : ℕ} (k : ℕ) → LowestAt m first end k a → (Asks m first end k a → ⊥) → r ≡ refusalAt m first end k a → Broken r a
   broken k low bad same = record { round = k; lowest = low; wrong = bad; name = same }
 
+  abbrev at : ℕ → ℕ
+  at = place m first end
+
   pub breaks : {r : ScreenRefusal} {a : ℕ} → Finding m first end r a → Broken r a
-  breaks (forbidden {a} low bad) = broken 0 low (λ ok. T-not (isForbidden (classAt m a)) (ok .0) bad) (rw (is-true (isForbidden (classAt m a)) bad))
-  breaks (runs-past {a} low allowed far) = broken 0 low (λ ok. omega (arith, ok .1)) (rw (is-false (isForbidden (classAt m a)) allowed))
-  breaks (falls-through {a} low last bad) = broken 1 low (λ ok. T-not (endsRoutine (classAt m a)) bad (ok last)) refl
-  breaks (strays {a} {t} low jump none) = broken 2 low (λ ok. none (ok t jump)) refl
+  breaks (forbidden {a} low bad) = broken (at 7) low (λ ok. T-not (isForbidden (classAt m a)) (ok .0) bad) (rw (is-true (isForbidden (classAt m a)) bad))
+  breaks (runs-past {a} low allowed far) = broken (at 7) low (λ ok. omega (arith, ok .1)) (rw (is-false (isForbidden (classAt m a)) allowed))
+  breaks (falls-through {a} low last bad) = broken (at 9) low (λ ok. T-not (endsRoutine (classAt m a)) bad (ok last)) refl
+  breaks (strays {a} {t} low jump none) = broken (at 10) low (λ ok. none (ok t jump)) refl

@@ -19,14 +19,14 @@ use Rattle.routine.specs.Rules.{Start}
 use Rattle.routine.specs.Screen.{refusedAt, scan, passes, refusalOf, scanFor, tests}
 use Rattle.routine.proofs.Starts.{start-low, start-high}
 use Rattle.routine.proofs.Jumps.{target-passes, target-fails}
-use Rattle.routine.proofs.Findings.{Asks, Every, Below, Before, Lowest, Finding, falls-through, strays, Shows}
+use Rattle.routine.proofs.Findings.{Asks, place, Every, Below, Before, Lowest, LowestAt, Finding, falls-through, strays, Shows}
 use Rattle.routine.proofs.Rounds as rounds
 
 module _ (m : List ℕ) (first end : ℕ) (marked : ℕ → Bool) (is-start : (a : ℕ) → T (marked a) ↔ Start m first end a) where
   -- a test of the k-th round: to pass it is what the round asks, to fail it a finding
   pub record Tells (k : ℕ) (t : Test) : Type 0 where
     pub right : (a : ℕ) → T (passes t m marked end a) → Asks m first end k a
-    pub wrong : (a : ℕ) → Lowest m first end k a → T (not (passes t m marked end a)) → Finding m first end (refusalOf t) a
+    pub wrong : (a : ℕ) → LowestAt m first end k a → T (not (passes t m marked end a)) → Finding m first end (refusalOf t) a
 
   module _ (k : ℕ) (t : Test) (tells : Tells k t) (before : Before m first end k) where
     abbrev test : ℕ → Bool
@@ -60,18 +60,18 @@ module _ (m : List ℕ) (first end : ℕ) (marked : ℕ → Bool) (is-start : (a
   scan-shows k t tells n e before = scans k t tells before first n e (λ b s low. absurd (omega (arith, start-low s)))
 
   -- 9
-  ends-tells : Tells 1 Ends
+  ends-tells : Tells (place m first end 9) Ends
   ends-tells = record { right = λ a t last. subst (λ (b : Bool). T (if b then endsRoutine (classAt m a) else true)) (eq-eqb _ _ last) t; wrong = λ a low t. fails a low (eqb (past m a) end) refl t }
     where
-      fails : (a : ℕ) → Lowest m first end 1 a → (b : Bool) → eqb (past m a) end ≡ b → T (not (if b then endsRoutine (classAt m a) else true)) → Finding m first end (refusalOf Ends) a
+      fails : (a : ℕ) → Lowest m first end 9 a → (b : Bool) → eqb (past m a) end ≡ b → T (not (if b then endsRoutine (classAt m a) else true)) → Finding m first end (refusalOf Ends) a
       fails a low true f t = falls-through low (eqb→eq _ end (rw f tt)) t
       fails a low false f t = absurd t
 
   -- 10
-  lands-tells : Tells 2 Lands
+  lands-tells : Tells (place m first end 10) Lands
   lands-tells = record { right = λ a h t jump. is-start t .0 (target-passes marked jump h); wrong = fails }
     where
-      fails : (a : ℕ) → Lowest m first end 2 a → T (not (passes Lands m marked end a)) → Finding m first end (refusalOf Lands) a
+      fails : (a : ℕ) → Lowest m first end 10 a → T (not (passes Lands m marked end a)) → Finding m first end (refusalOf Lands) a
       fails a low h =
           let (t, jump, unmarked) = target-fails marked (flowAt m a) h in
           strays low jump (λ there. T-not (marked t) unmarked (is-start t .1 there))

@@ -39,7 +39,7 @@ module _ (m : List ℕ) (first end : ℕ) where
       go (inl h) = h .0
       go (inr s) = absurd (omega (arith, start-low s))
 
-  lowest : {p : ℕ} → p < end → Reached p → Lowest m first end 0 p
+  lowest : {p : ℕ} → p < end → Reached p → Lowest m first end 7 p
   lowest low r = record { start = r .here low; earlier = λ j none. absurd (omega arith); below = sound-below r }
 
   reach-next : {p : ℕ} → p < end → Reached p → IsSound p → Reached (past m p)

@@ -1,9 +1,10 @@
 -- A verdict that passes and one that refuses, as a match tells them apart; and the first finding of several.
-use mathlib.Core.Path.{_≡_, refl, sym, ap, _∙_}
+use mathlib.Core.Path.{_≡_, refl, sym, ap, subst, _∙_}
 use mathlib.Core.List.{List, [], _∷_, _++_, map}
-use Prim.Native.Nat.{ℕ}
+use Prim.Native.Nat.{ℕ, zero, suc, _+_, _≤_, _<_}
 use native.Mathlib.Omega.{arith}
-use lib.ListN.{length}
+use lib.ListN.{length, take, getD}
+use lib.Seq.{take-all}
 use types.Run.{OneOf, miss}
 use denote.Enum.Declared.{tagOf}
 use Rattle.verdict.specs.declared.Verdict.{Verdict}
@@ -73,3 +74,18 @@ module _ {m : List ℕ} {first : ℕ} {marks : List ℕ} {walked : Verdict} wher
       scanned : (l : List Test) → scans (l ++ t ∷ []) ≡ scans l ++ scans (t ∷ [])
       scanned [] = refl
       scanned (q ∷ l) = ap (λ (k : List Verdict). scanFor m (isMarked marks first) first (length marks) q ∷ k) (scanned l)
+
+-- the next test of a list of them, and none left
+module _ {m : List ℕ} {first : ℕ} {marks : List ℕ} {walked found : Verdict} (l : List Test) (k : ℕ) (before : Found m first marks walked (take k l) found) where
+  pub next-test : {r : Verdict} (none : Test) → k < length l → r ≡ firstOf (found ∷ scanFor m (isMarked marks first) first (length marks) (getD l k none) ∷ []) → Found m first marks walked (take (k + 1) l) r
+  next-test {r} none there e =
+      let next : suc k ≡ k + 1 = omega arith in
+      subst (λ (so-far : List Test). Found m first marks walked so-far r) (one-more l k there ∙ ap (λ (j : ℕ). take j l) next) (and-then (getD l k none) before e)
+    where
+      one-more : (l : List Test) (k : ℕ) → k < length l → take k l ++ getD l k none ∷ [] ≡ take (suc k) l
+      one-more [] k low = absurd (omega arith)
+      one-more (t ∷ l) zero low = refl
+      one-more (t ∷ l) (suc k) low = ap (λ (rest : List Test). t ∷ rest) (one-more l k (omega arith))
+
+  pub last-test : length l ≤ k → found ≡ firstOf (walked ∷ map (scanFor m (isMarked marks first) first (length marks)) l)
+  last-test over = before .first-found ∙ ap (λ (so-far : List Test). firstOf (walked ∷ map (scanFor m (isMarked marks first) first (length marks)) so-far)) (take-all k l over)

@@ -25,13 +25,20 @@ fn then(found: Verdict, mem: &[u8], first: Addr, marks: &[u8], test: Test) -> Ve
     }
 }
 
-// "After the walk comes 9", "Then 10".
+// "After the walk comes 9", "Then 10": the tests in their order.
 fn after_walk(walked: Verdict, mem: &[u8], first: Addr, marks: &[u8]) -> Verdict
     requires { ⌜ Inside (now mem) (first .0) (length (now marks)) ⌝ }
     ensures { λ r. ⌜ r ≡ firstOf (walked ∷ map (scanFor (now (mem .entry)) (isMarked (now (marks .entry)) (first .0)) (first .0) (length (now (marks .entry)))) tests) ⌝ }
 {
-    let found = then(walked, mem, first, marks, Test::Ends);
-    then(found, mem, first, marks, Test::Lands)
+    let tests = [Test::Ends, Test::Lands];
+    let mut found = walked;
+    let mut k = 0;
+    while k < tests.len() {
+        let test = tests[k];
+        found = then(found, mem, first, marks, test);
+        k += 1;
+    }
+    found
 }
 
 // 7 and 8, then the tests after them; "marks all 0", unless it passes.

@@ -1,42 +1,66 @@
--- The arms of a match on a number are right by one computed test over all numbers.
-use mathlib.Core.Path.{_≡_, ap}
-use mathlib.Core.Bool.{Bool, not}
-use mathlib.Core.List.{List, [], _∷_, map}
-use Prim.Native.Nat.{ℕ, zero, suc, _<_}
-use native.Mathlib.Omega.{arith}
+-- The arms of a match on a number are right by one computed test of each over all numbers; the single numbers of an arm are read off the function's own code.
+use mathlib.Core.Path.{_≡_, refl}
+use mathlib.Core.Bool.{Bool, true, false, not}
+use mathlib.Core.List.{List, [], _∷_}
+use Prim.Native.Nat.{ℕ, _<_}
 use lib.Dec.{T, not-T}
 use lib.Ieee.Bits.{is-true}
-use lib.ListN.{length, getD}
-use mir.Val.{hasKey}
 use mir.Facts.{T-not-not}
-use types.Run.{OneOf, miss}
+use mir.Syntax.{Body, skip, seq, assign, block, loop, cond, switch, exit, return, call, Arms, arm, default, noDefault}
+use mir.Val.{hasKey}
+use types.Run.{OneOf, hit, miss}
 use Rattle.sm83.specs.Basics.{if_then_else_}
 use Rattle.opcodes.proofs.Tested.{upto, agree}
 
--- The single numbers of an arm, and what it gives.
-pub record Arm (B : Type 0) : Type 0 where
-  pub numbers : List ℕ
-  pub value : B
+-- the arms of a match that a function begins with, each by its single numbers
+abbrev numbers : Arms → List (List ℕ)
+numbers (arm ks b rest) = ks ∷ numbers rest
+numbers (default b) = []
+numbers noDefault = []
 
-abbrev pub arm : {B : Type 0} → List ℕ → B → Arm B
-arm ks v = record { numbers = ks; value = v }
+abbrev pub armsOf : Body → List (List ℕ)
+armsOf skip = []
+armsOf (seq b c) = armsOf b
+armsOf (assign p v) = []
+armsOf (block b) = armsOf b
+armsOf (loop b) = []
+armsOf (cond o b c) = []
+armsOf (switch o arms) = numbers arms
+armsOf (exit n) = []
+armsOf return = []
+armsOf (call f os p) = []
 
--- a value where a test takes a number, and the answer elsewhere
-abbrev pub given : {B : Type 0} → (ℕ → Bool) → B → (ℕ → B) → ℕ → B
-given takes v answer t = if takes t then v else answer t
+-- what the check knows of a number that is in a range: it is no single number of any arm
+abbrev pub Rest : Type 0 → List (List ℕ) → ℕ → Type 0
+Rest A [] t = A
+Rest A (ks ∷ l) t = Rest (A × (OneOf ks t → ⊥)) l t
 
--- what takes a number and gives the answer for each number that it takes is right
-pub taken : {B : Type 0} (takes : ℕ → Bool) (v : B) (answer : ℕ → B) (n : ℕ) → upto (given takes v answer) n ≡ upto answer n → (t : ℕ) → t < n → T (takes t) → v ≡ answer t
-taken takes v answer n right t low it = rw (is-true (takes t) it) at (agree (given takes v answer) answer n right t low)
+abbrev pub isSingle : List (List ℕ) → ℕ → Bool
+isSingle [] t = false
+isSingle (ks ∷ l) t = if hasKey ks t then true else isSingle l t
+
+no-single : (A : Type 0) (l : List (List ℕ)) (t : ℕ) → Rest A l t → A × T (not (isSingle l t))
+no-single A [] t rest = (rest, tt)
+no-single A (ks ∷ l) t rest = with-later (no-single (A × (OneOf ks t → ⊥)) l t rest)
+  where
+    here : (k : Bool) → hasKey ks t ≡ k → (OneOf ks t → ⊥) → T (not (isSingle l t)) → T (not (if k then true else isSingle l t))
+    here true e none later = absurd (none (hit ks t (rw e tt)))
+    here false e none later = later
+
+    with-later : (A × (OneOf ks t → ⊥)) × T (not (isSingle l t)) → A × T (not (if hasKey ks t then true else isSingle l t))
+    with-later h = (h .0 .0, here (hasKey ks t) refl (h .0 .1) (h .1))
 
 module _ {B : Type 0} (answer : ℕ → B) (n : ℕ) where
-  abbrev pub each : List (Arm B) → List (List B)
-  each = map (λ (a : Arm B). upto (given (hasKey (a .numbers)) (a .value) answer) n)
+  -- a value where a test takes a number, and the answer elsewhere: the same as the answer everywhere
+  abbrev pub Right : (ℕ → Bool) → B → Type 0
+  Right takes v = upto (λ t. if takes t then v else answer t) n ≡ upto answer n
 
-  abbrev pub all : List (Arm B) → List (List B)
-  all = map (λ (a : Arm B). upto answer n)
+  taken : (takes : ℕ → Bool) (v : B) → Right takes v → (t : ℕ) → t < n → T (takes t) → v ≡ answer t
+  taken takes v right t low it = rw (is-true (takes t) it) at (agree (λ t. if takes t then v else answer t) answer n right t low)
 
-  pub by-number : (arms : List (Arm B)) → each arms ≡ all arms → (none : Arm B) (i : ℕ) → i < length arms → (t : ℕ) → t < n → OneOf (getD arms i none .numbers) t → getD arms i none .value ≡ answer t
-  by-number [] right none i there t low one = absurd (omega arith)
-  by-number (a ∷ arms) right none zero there t low one = taken (hasKey (a .numbers)) (a .value) answer n (cc) t low (T-not-not (hasKey (a .numbers) t) (not-T (not (hasKey (a .numbers) t)) (λ missed. miss (a .numbers) t missed one)))
-  by-number (a ∷ arms) right none (suc i) there t low one = by-number arms (cc) none i (omega arith) t low one
+  -- an arm of single numbers, and one of ranges
+  pub by-number : (ks : List ℕ) (v : B) → Right (hasKey ks) v → (t : ℕ) → t < n → OneOf ks t → v ≡ answer t
+  by-number ks v right t low one = taken (hasKey ks) v right t low (T-not-not (hasKey ks t) (not-T (not (hasKey ks t)) (λ missed. miss ks t missed one)))
+
+  pub by-range : (l : List (List ℕ)) (v : B) → Right (λ t. not (isSingle l t)) v → (t : ℕ) → t < n → Rest (Unit {0}) l t → v ≡ answer t
+  by-range l v right t low rest = taken (λ k. not (isSingle l k)) v right t low (no-single (Unit {0}) l t rest .1)

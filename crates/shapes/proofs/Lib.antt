@@ -1,3 +1,2 @@
--- Every opcode's length and class, by a computed test.
+-- What is right of a match on a number.
 pub mod Arms
-pub mod Opcodes

@@ -2,3 +2,4 @@
 pub mod Steps
 pub mod Reached
 pub mod Turn
+pub mod Determined

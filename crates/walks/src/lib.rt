@@ -1,2 +1,2 @@
-// The screen's first pass over a window: its instructions in turn. The second, over the targets of its jumps: the crate `targets`.
+// The screen's first pass over a window: its instructions in turn. Those after it, over the marked addresses: the crate `targets`.
 pub mod walk;
