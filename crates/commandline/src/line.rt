@@ -1,7 +1,7 @@
 // What the words of a command line have said so far.
 ghost use mathlib.Core.Path.{_≡_};
 ghost use Prim.Native.Nat.{_<_};
-ghost use Rattle.commandline.specs.Grammar.{place, parts};
+ghost use Rattle.grammar.specs.Grammar.{place, parts};
 ghost use Rattle.commandline.specs.Given.{isGiven, wordOr, addressOr, numberOr, powerOr};
 ghost use Rattle.commandline.specs.Line.{empty, saidOf, withStage, kept};
 use crate::given::Given;
@@ -10,10 +10,10 @@ use crate::given::is_given;
 use crate::given::number_or;
 use crate::given::power_or;
 use crate::given::word_or;
-use crate::grammar::Command;
-use crate::grammar::Part;
-use crate::grammar::Plain;
-use crate::grammar::Power;
+use grammar::Command;
+use grammar::Part;
+use grammar::Plain;
+use grammar::Power;
 use number::Fault;
 
 // What is wrong with a line: what it is about, and the index of the word.

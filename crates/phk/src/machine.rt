@@ -1,5 +1,4 @@
 // phk run and phk step.
-use commandline::grammar::Part;
 use commandline::line::Line;
 use course::ends::clear_progress;
 use course::ends::print_all_changes;
@@ -11,6 +10,7 @@ use course::far::budget;
 use course::far::over;
 use course::far::rest;
 use course::far::started;
+use grammar::Part;
 use outcome::LastOutcome;
 use run::run;
 use run::step;

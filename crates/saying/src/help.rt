@@ -1,5 +1,5 @@
 // What `--help` and `version` print: a page each.
-use commandline::grammar::Command;
+use grammar::Command;
 
 fn general() {
     io::write_all(

@@ -1,8 +1,8 @@
 // What the tool says of files that it cannot read or write and of a bad command line: each sentence once, as in `sentences`.
 use crate::page::fail;
 use crate::page::print;
-use commandline::grammar::Part;
 use commandline::line::Mistake;
+use grammar::Part;
 use lines::line_of;
 use number::Fault;
 
@@ -68,36 +68,39 @@ fn quoted_at(index: usize) {
     quoted(&word[..n]);
 }
 
+fn told(text: &[u8]) {
+    io::write_all(2, text);
+}
+
 fn name_of(part: Part) {
     match part {
-        Part::Image => io::write_all(2, b" IMAGE"),
-        Part::First => io::write_all(2, b" FIRST"),
-        Part::Last => io::write_all(2, b" LAST"),
-        Part::At => io::write_all(2, b" --at"),
-        Part::State => io::write_all(2, b" --state"),
-        Part::Pc => io::write_all(2, b" --pc"),
-        Part::Sp => io::write_all(2, b" --sp"),
-        Part::Steps => io::write_all(2, b" --steps"),
-        Part::Out => io::write_all(2, b" --out"),
-        Part::Marks => io::write_all(2, b" --marks"),
-        Part::Map => io::write_all(2, b" --map"),
-        Part::Trace => io::write_all(2, b" --trace"),
-        Part::Help => io::write_all(2, b" --help"),
+        Part::Image => told(b" IMAGE"),
+        Part::First => told(b" FIRST"),
+        Part::Last => told(b" LAST"),
+        Part::At => told(b" --at"),
+        Part::State => told(b" --state"),
+        Part::Pc => told(b" --pc"),
+        Part::Sp => told(b" --sp"),
+        Part::Steps => told(b" --steps"),
+        Part::Out => told(b" --out"),
+        Part::Marks => told(b" --marks"),
+        Part::Map => told(b" --map"),
+        Part::Trace => told(b" --trace"),
+        Part::Help => told(b" --help"),
     }
-    ;
 }
 
 // The part, and what was given for it.
 fn named(part: Part, index: usize) {
     name_of(part);
     quoted_at(index);
-    io::write_all(2, b":");
+    told(b":");
 }
 
 // The part, for which nothing was given.
 fn named_alone(part: Part) {
     name_of(part);
-    io::write_all(2, b":");
+    told(b":");
 }
 
 // What a mistake is about: a word, a part, or what was given for one.
@@ -178,7 +181,7 @@ fn expected(mistake: Mistake) {
 
 // The first mistake of a command line: what it is about, and what was expected.
 pub fn mistake(mistake: Mistake) {
-    io::write_all(2, b"phk:");
+    told(b"phk:");
     subject(mistake);
     expected(mistake);
 }

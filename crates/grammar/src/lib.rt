@@ -1,7 +1,7 @@
 // The grammar: the commands, what a word may stand for, which words a command takes, and what follows an option. A new command or option
-// is one case in each of these.
+// is one case in each of these; `commandline` keeps what was said of an option at a place of its own.
 ghost use mathlib.Core.Path.{_≡_};
-ghost use Rattle.commandline.specs.Grammar.{plainOf, allows, kindOf, isAlone, commandNamed, optionNamed, powerNamed};
+ghost use Rattle.grammar.specs.Grammar.{plainOf, allows, kindOf, isAlone, commandNamed, optionNamed, powerNamed};
 use lines::number_of;
 
 pub enum Command {

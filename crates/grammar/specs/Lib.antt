@@ -1,0 +1,2 @@
+-- The grammar of the command line.
+pub mod Grammar
