@@ -1,7 +1,5 @@
 // What the words of a command line have said so far.
 ghost use mathlib.Core.Path.{_≡_};
-ghost use Prim.Native.Nat.{_<_};
-ghost use Rattle.grammar.specs.Grammar.{place, parts};
 ghost use Rattle.commandline.specs.Given.{isGiven, wordOr, addressOr, numberOr, powerOr};
 ghost use Rattle.commandline.specs.Line.{empty, saidOf, withStage, kept};
 use crate::given::Given;
@@ -11,9 +9,11 @@ use crate::given::number_or;
 use crate::given::power_or;
 use crate::given::word_or;
 use grammar::Command;
+use grammar::PARTS;
 use grammar::Part;
 use grammar::Plain;
 use grammar::Power;
+use grammar::place;
 use number::Fault;
 
 // What is wrong with a line: what it is about, and the index of the word.
@@ -41,9 +41,6 @@ pub enum Stage {
     Wrong(Mistake),
 }
 
-// How many parts there are.
-const PARTS: usize = 13;
-
 // An array in a struct holds structs, for the prover, and no enums.
 pub struct Cell {
     pub given: Given,
@@ -52,27 +49,6 @@ pub struct Cell {
 pub struct Line {
     pub stage: Stage,
     cells: [Cell; PARTS],
-}
-
-// Where a part is kept.
-fn place(part: Part) -> usize
-    ensures { λ r. ⌜ (r ≡ place part) × (r < parts) ⌝ }
-{
-    match part {
-        Part::Image => 0,
-        Part::First => 1,
-        Part::Last => 2,
-        Part::At => 3,
-        Part::State => 4,
-        Part::Pc => 5,
-        Part::Sp => 6,
-        Part::Steps => 7,
-        Part::Out => 8,
-        Part::Marks => 9,
-        Part::Map => 10,
-        Part::Trace => 11,
-        Part::Help => 12,
-    }
 }
 
 impl Line {

@@ -1,7 +1,8 @@
 // The grammar: the commands, what a word may stand for, which words a command takes, and what follows an option. A new command or option
 // is one case in each of these; `commandline` keeps what was said of an option at a place of its own.
 ghost use mathlib.Core.Path.{_≡_};
-ghost use Rattle.grammar.specs.Grammar.{plainOf, allows, kindOf, isAlone, commandNamed, optionNamed, powerNamed};
+ghost use Prim.Native.Nat.{_<_};
+ghost use Rattle.grammar.specs.Grammar.{place, parts, plainOf, allows, kindOf, isAlone, commandNamed, optionNamed, powerNamed};
 use lines::number_of;
 
 pub enum Command {
@@ -27,6 +28,29 @@ pub enum Part {
     Map,
     Trace,
     Help,
+}
+
+// How many parts there are, and the place of each in a row of them: where `Line` keeps what was said of it.
+pub const PARTS: usize = 13;
+
+pub fn place(part: Part) -> usize
+    ensures { λ r. ⌜ (r ≡ place part) × (r < parts) ⌝ }
+{
+    match part {
+        Part::Image => 0,
+        Part::First => 1,
+        Part::Last => 2,
+        Part::At => 3,
+        Part::State => 4,
+        Part::Pc => 5,
+        Part::Sp => 6,
+        Part::Steps => 7,
+        Part::Out => 8,
+        Part::Marks => 9,
+        Part::Map => 10,
+        Part::Trace => 11,
+        Part::Help => 12,
+    }
 }
 
 // The states at power-on.
