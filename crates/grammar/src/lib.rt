@@ -1,5 +1,5 @@
 // The grammar: the commands, what a word may stand for, which words a command takes, and what follows an option. A new command or option
-// is one case in each of these; `commandline` keeps what was said of an option at a place of its own.
+// is one case in each of these, and a sentence in `saying`.
 ghost use mathlib.Core.Path.{_≡_};
 ghost use Prim.Native.Nat.{_<_};
 ghost use Rattle.grammar.specs.Grammar.{place, parts, plainOf, allows, kindOf, isAlone, commandNamed, optionNamed, powerNamed};
