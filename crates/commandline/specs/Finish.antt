@@ -3,11 +3,11 @@ use mathlib.Core.Bool.{Bool, true, false}
 use Prim.Native.Nat.{ℕ}
 use lib.Dec.{ltb}
 use Rattle.text.specs.Page.{choose}
-use Rattle.grammar.specs.declared.Command.{Command}
-use Rattle.grammar.specs.declared.Part.{Part}
-use Rattle.grammar.specs.declared.Part.the-variants as part
-use Rattle.grammar.specs.declared.Plain.{Plain}
-use Rattle.grammar.specs.declared.Plain.the-variants.{Nothing, One, Two, Three}
+use Rattle.commandline.specs.declared.grammar.Command.{Command}
+use Rattle.commandline.specs.declared.grammar.Part.{Part}
+use Rattle.commandline.specs.declared.grammar.Part.the-variants as part
+use Rattle.commandline.specs.declared.grammar.Plain.{Plain}
+use Rattle.commandline.specs.declared.grammar.Plain.the-variants.{Nothing, One, Two, Three}
 use Rattle.commandline.specs.declared.line.Mistake.the-variants.{NoCommand, NoValue, NotGiven, Reversed}
 use Rattle.commandline.specs.declared.line.Stage.{Stage}
 use Rattle.commandline.specs.declared.line.Stage.the-variants.{Start, Takes, Awaits, Wrong}

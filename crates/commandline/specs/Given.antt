@@ -1,7 +1,7 @@
 -- What was said of a part, and the value in it; another value if it has none of this kind.
 use mathlib.Core.Bool.{Bool, true, false}
 use Prim.Native.Nat.{ℕ}
-use Rattle.grammar.specs.declared.Power.{Power}
+use Rattle.commandline.specs.declared.grammar.Power.{Power}
 use Rattle.commandline.specs.declared.given.Given.{Given}
 use Rattle.commandline.specs.declared.given.Given.the-variants as given
 use Rattle.commandline.specs.declared.given.Given.the-variants.{Nothing, Alone, Word, Address, Number}

@@ -3,3 +3,4 @@ pub mod Finish
 pub mod Given
 pub mod Line
 pub mod Take
+pub mod Grammar

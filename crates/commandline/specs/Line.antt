@@ -1,14 +1,14 @@
 -- What the words of a command line have said so far: which word may come next, and what was said of each part.
 use mathlib.Core.List.{List}
 use lib.ListN.{getD, set, replicate}
-use Rattle.grammar.specs.declared.Part.{Part}
+use Rattle.commandline.specs.declared.grammar.Part.{Part}
 use Rattle.commandline.specs.declared.line.Stage.{Stage}
 use Rattle.commandline.specs.declared.line.Stage.the-variants.{Start}
 use Rattle.commandline.specs.declared.given.Given.{Given}
 use Rattle.commandline.specs.declared.given.Given.the-variants.{Nothing}
 use Rattle.commandline.specs.declared.line.Cell.{Cell}
 use Rattle.commandline.specs.declared.line.Line.{Line}
-use Rattle.grammar.specs.Grammar.{place, parts}
+use Rattle.commandline.specs.Grammar.{place, parts}
 
 abbrev pub cell : Given → Cell
 cell g = record { given = g }

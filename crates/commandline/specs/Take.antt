@@ -8,18 +8,18 @@ use Rattle.text.specs.Page.{choose}
 use Rattle.number.specs.declared.Number.{Number}
 use Rattle.number.specs.declared.Number.the-variants as number
 use Rattle.number.specs.Number.{numberIn}
-use Rattle.grammar.specs.declared.Command.{Command}
-use Rattle.grammar.specs.declared.Part.{Part}
-use Rattle.grammar.specs.declared.Plain.{Plain}
-use Rattle.grammar.specs.declared.Plain.the-variants.{Nothing, One, Two, Three}
-use Rattle.grammar.specs.declared.Kind.{Kind}
-use Rattle.grammar.specs.declared.Kind.the-variants as kind
-use Rattle.grammar.specs.declared.NamedCommand.{NamedCommand}
-use Rattle.grammar.specs.declared.NamedCommand.the-variants as command
-use Rattle.grammar.specs.declared.NamedOption.{NamedOption}
-use Rattle.grammar.specs.declared.NamedOption.the-variants as option
-use Rattle.grammar.specs.declared.NamedPower.{NamedPower}
-use Rattle.grammar.specs.declared.NamedPower.the-variants as power
+use Rattle.commandline.specs.declared.grammar.Command.{Command}
+use Rattle.commandline.specs.declared.grammar.Part.{Part}
+use Rattle.commandline.specs.declared.grammar.Plain.{Plain}
+use Rattle.commandline.specs.declared.grammar.Plain.the-variants.{Nothing, One, Two, Three}
+use Rattle.commandline.specs.declared.grammar.Kind.{Kind}
+use Rattle.commandline.specs.declared.grammar.Kind.the-variants as kind
+use Rattle.commandline.specs.declared.grammar.NamedCommand.{NamedCommand}
+use Rattle.commandline.specs.declared.grammar.NamedCommand.the-variants as command
+use Rattle.commandline.specs.declared.grammar.NamedOption.{NamedOption}
+use Rattle.commandline.specs.declared.grammar.NamedOption.the-variants as option
+use Rattle.commandline.specs.declared.grammar.NamedPower.{NamedPower}
+use Rattle.commandline.specs.declared.grammar.NamedPower.the-variants as power
 use Rattle.commandline.specs.declared.line.Mistake.{Mistake}
 use Rattle.commandline.specs.declared.line.Mistake.the-variants.{UnknownCommand, UnknownOption, NotHere, Twice, TooMany, UnknownPower, BadNumber, AddressTooLarge}
 use Rattle.commandline.specs.declared.line.Stage.{Stage}
@@ -29,7 +29,7 @@ use Rattle.commandline.specs.declared.given.Given.the-variants as given
 use Rattle.commandline.specs.declared.line.Line.{Line}
 use Rattle.commandline.specs.declared.take.Read.{Read}
 use Rattle.commandline.specs.declared.take.Read.the-variants.{As, Not}
-use Rattle.grammar.specs.Grammar.{plainOf, allows, kindOf, isAlone, commandNamed, optionNamed, powerNamed}
+use Rattle.commandline.specs.Grammar.{plainOf, allows, kindOf, isAlone, commandNamed, optionNamed, powerNamed}
 use Rattle.commandline.specs.Given.{isGiven}
 use Rattle.commandline.specs.Line.{saidOf, withStage, kept}
 

@@ -3,12 +3,12 @@ ghost use mathlib.Core.Path.{_≡_};
 ghost use Rattle.commandline.specs.declared.finish.Asked.the-variants.{Mistaken};
 ghost use Rattle.commandline.specs.declared.line.Mistake.the-variants.{NoValue};
 ghost use Rattle.commandline.specs.Finish.{ordered, filled, orHelp, finished};
+use crate::grammar::Command;
+use crate::grammar::Part;
+use crate::grammar::Plain;
 use crate::line::Line;
 use crate::line::Mistake;
 use crate::line::Stage;
-use grammar::Command;
-use grammar::Part;
-use grammar::Plain;
 
 // What a whole line asks for.
 pub enum Asked {

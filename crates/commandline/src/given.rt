@@ -1,7 +1,7 @@
 // What was said of a part, and the value in it, if it has one of this kind.
 ghost use mathlib.Core.Path.{_≡_};
 ghost use Rattle.commandline.specs.Given.{isGiven, wordOr, addressOr, numberOr, powerOr};
-use grammar::Power;
+use crate::grammar::Power;
 
 // A path is kept by its word's index.
 pub enum Given {

@@ -2,5 +2,6 @@
 // words there are, and which command takes which, stands in `grammar`.
 pub mod finish;
 pub mod given;
+pub mod grammar;
 pub mod line;
 pub mod take;

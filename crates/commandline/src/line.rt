@@ -8,12 +8,12 @@ use crate::given::is_given;
 use crate::given::number_or;
 use crate::given::power_or;
 use crate::given::word_or;
-use grammar::Command;
-use grammar::PARTS;
-use grammar::Part;
-use grammar::Plain;
-use grammar::Power;
-use grammar::place;
+use crate::grammar::Command;
+use crate::grammar::PARTS;
+use crate::grammar::Part;
+use crate::grammar::Plain;
+use crate::grammar::Power;
+use crate::grammar::place;
 use number::Fault;
 
 // What is wrong with a line: what it is about, and the index of the word.

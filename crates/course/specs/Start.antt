@@ -4,9 +4,9 @@ use Prim.Native.Nat.{ℕ}
 use Rattle.sm83.specs.declared.Cpu.{Cpu}
 use Rattle.sm83.specs.State.{pc, sp, writePC, writeSP}
 use Rattle.sm83.specs.PowerOn.{awake-with, cpu-dmg, cpu-cgb, cpu-cgb-dmg, cpu-zero}
-use Rattle.grammar.specs.declared.Power.{Power}
-use Rattle.grammar.specs.declared.Power.the-variants.{Dmg, Cgb, CgbDmg, Zero}
-use Rattle.grammar.specs.declared.Part.the-variants.{State, Pc, Sp, Steps}
+use Rattle.commandline.specs.declared.grammar.Power.{Power}
+use Rattle.commandline.specs.declared.grammar.Power.the-variants.{Dmg, Cgb, CgbDmg, Zero}
+use Rattle.commandline.specs.declared.grammar.Part.the-variants.{State, Pc, Sp, Steps}
 use Rattle.commandline.specs.declared.line.Line.{Line}
 use Rattle.commandline.specs.Given.{addressOr, numberOr, powerOr}
 use Rattle.commandline.specs.Line.{saidOf}

@@ -1,7 +1,7 @@
 // How far a run is, while it goes on, and how it ended: its last outcome, the registers, what changed in memory, the image that is saved.
 use crate::far::Far;
+use commandline::grammar::Part;
 use commandline::line::Line;
-use grammar::Part;
 use saying::said;
 use sentences::after;
 use sentences::byte;

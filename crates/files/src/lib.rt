@@ -1,6 +1,6 @@
 // The image is read, and memory is written to a new file that is renamed into place.
+use commandline::grammar::Part;
 use commandline::line::Line;
-use grammar::Part;
 use saying::mistakes;
 use saying::page::within;
 use text::page::put;

@@ -1,4 +1,5 @@
 // phk run and phk step.
+use commandline::grammar::Part;
 use commandline::line::Line;
 use course::ends::clear_progress;
 use course::ends::print_all_changes;
@@ -10,7 +11,6 @@ use course::far::budget;
 use course::far::over;
 use course::far::rest;
 use course::far::started;
-use grammar::Part;
 use outcome::LastOutcome;
 use run::run;
 use run::step;

@@ -4,10 +4,10 @@ mod machine;
 
 use commandline::finish::Asked;
 use commandline::finish::finish;
+use commandline::grammar::Command;
 use commandline::line::Line;
 use commandline::line::Mistake;
 use commandline::take::take;
-use grammar::Command;
 use saying::help;
 use saying::mistakes;
 use saying::said;

@@ -1,5 +1,5 @@
 // What `--help` and `version` print: a page each.
-use grammar::Command;
+use commandline::grammar::Command;
 
 fn general() {
     io::write_all(

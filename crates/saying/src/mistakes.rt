@@ -1,8 +1,8 @@
 // What the tool says of files that it cannot read or write and of a bad command line: each sentence once, as in `sentences`.
 use crate::page::fail;
 use crate::page::print;
+use commandline::grammar::Part;
 use commandline::line::Mistake;
-use grammar::Part;
 use lines::line_of;
 use number::Fault;
 

@@ -1,5 +1,8 @@
 // What the tool says: each sentence and the form of each line, once. In a form # $ % & stand for the next value, as four hexadecimal
 // digits, two, a decimal number or flags, and @ for the word; a sentence that has a number is a line of a text.
+ghost use mathlib.Core.Path.{_≡_};
+ghost use Prim.Native.Nat.{_+_, _%_};
+ghost use Rattle.definition.specs.Bus.{byteAt};
 use lines::line_of;
 use reading::opcode::length_of;
 use saying::page::print;
@@ -7,13 +10,18 @@ use saying::page::print_short;
 use sm83::Addr;
 use sm83::CpuRegisters;
 
-pub fn byte(mem: &[u8], a: u16) -> u8 {
+pub fn byte(mem: &[u8], a: u16) -> u8
+    ensures { λ r. ⌜ r ≡ byteAt (now (mem .entry)) a ⌝ }
+{
     reading::byte::byte(mem, Addr(a))
 }
 
 // Addresses wrap.
-pub fn after(a: u16, by: u16) -> u16 {
-    std::num::wrapping_add_u16(a, by)
+pub fn after(a: u16, by: u16) -> u16
+    ensures { λ r. ⌜ r ≡ (a + by) % 65536 ⌝ }
+{
+    let to = Addr(a).wrapping_add(by);
+    to.0
 }
 
 fn end_line() {

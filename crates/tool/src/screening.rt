@@ -1,6 +1,6 @@
 // phk screen: the verdict, the marks and the map.
+use commandline::grammar::Part;
 use commandline::line::Line;
-use grammar::Part;
 use picture::kinds::draw;
 use saying::page::within;
 use saying::said;

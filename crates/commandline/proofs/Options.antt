@@ -7,11 +7,11 @@ use Prim.Native.Nat.{ℕ, zero, suc, _+_}
 use types.Run.{OneOf}
 use denote.Enum.Declared.{tagOf}
 use Rattle.text.specs.Page.{choose}
-use Rattle.grammar.specs.declared.Command.{Command}
-use Rattle.grammar.specs.declared.Part.{Part}
-use Rattle.grammar.specs.declared.Part.the-variants.{Image, First, Last, At, State, Pc, Sp, Steps, Out, Marks, Map, Trace, Help}
-use Rattle.grammar.proofs.Part.{the-type}
-use Rattle.grammar.specs.Grammar.{place, parts, isIn, optionsOf, allows}
+use Rattle.commandline.specs.declared.grammar.Command.{Command}
+use Rattle.commandline.specs.declared.grammar.Part.{Part}
+use Rattle.commandline.specs.declared.grammar.Part.the-variants.{Image, First, Last, At, State, Pc, Sp, Steps, Out, Marks, Map, Trace, Help}
+use Rattle.commandline.proofs.grammar.Part.{the-type}
+use Rattle.commandline.specs.Grammar.{place, parts, isIn, optionsOf, allows}
 
 -- the number by which a match tells a part is its place
 placed : (p : Part) → tagOf the-type p ≡ place p

@@ -6,21 +6,21 @@ use lib.Dec.{eqb}
 use lib.ListN.{getD}
 use Rattle.text.specs.Page.{ascii}
 use Rattle.lines.specs.Lines.{numberOf}
-use Rattle.grammar.specs.declared.Command.{Command}
-use Rattle.grammar.specs.declared.Command.the-variants.{Screen, Run, Step, Version, Help}
-use Rattle.grammar.specs.declared.Part.{Part}
-use Rattle.grammar.specs.declared.Part.the-variants as part
-use Rattle.grammar.specs.declared.Power.the-variants.{Dmg, Cgb, CgbDmg, Zero}
-use Rattle.grammar.specs.declared.Plain.{Plain}
-use Rattle.grammar.specs.declared.Plain.the-variants.{Nothing, One, Three}
-use Rattle.grammar.specs.declared.Kind.{Kind}
-use Rattle.grammar.specs.declared.Kind.the-variants.{Alone, Path, Address, Number, Power}
-use Rattle.grammar.specs.declared.NamedCommand.{NamedCommand}
-use Rattle.grammar.specs.declared.NamedCommand.the-variants as command
-use Rattle.grammar.specs.declared.NamedOption.{NamedOption}
-use Rattle.grammar.specs.declared.NamedOption.the-variants as option
-use Rattle.grammar.specs.declared.NamedPower.{NamedPower}
-use Rattle.grammar.specs.declared.NamedPower.the-variants as power
+use Rattle.commandline.specs.declared.grammar.Command.{Command}
+use Rattle.commandline.specs.declared.grammar.Command.the-variants.{Screen, Run, Step, Version, Help}
+use Rattle.commandline.specs.declared.grammar.Part.{Part}
+use Rattle.commandline.specs.declared.grammar.Part.the-variants as part
+use Rattle.commandline.specs.declared.grammar.Power.the-variants.{Dmg, Cgb, CgbDmg, Zero}
+use Rattle.commandline.specs.declared.grammar.Plain.{Plain}
+use Rattle.commandline.specs.declared.grammar.Plain.the-variants.{Nothing, One, Three}
+use Rattle.commandline.specs.declared.grammar.Kind.{Kind}
+use Rattle.commandline.specs.declared.grammar.Kind.the-variants.{Alone, Path, Address, Number, Power}
+use Rattle.commandline.specs.declared.grammar.NamedCommand.{NamedCommand}
+use Rattle.commandline.specs.declared.grammar.NamedCommand.the-variants as command
+use Rattle.commandline.specs.declared.grammar.NamedOption.{NamedOption}
+use Rattle.commandline.specs.declared.grammar.NamedOption.the-variants as option
+use Rattle.commandline.specs.declared.grammar.NamedPower.{NamedPower}
+use Rattle.commandline.specs.declared.grammar.NamedPower.the-variants as power
 
 abbrev pub plainOf : Command → Plain
 plainOf Screen = Three part.Image part.First part.Last

@@ -2,7 +2,7 @@
 // is one case in each of these, and a sentence in `saying`.
 ghost use mathlib.Core.Path.{_≡_};
 ghost use Prim.Native.Nat.{_<_};
-ghost use Rattle.grammar.specs.Grammar.{place, parts, plainOf, allows, kindOf, isAlone, commandNamed, optionNamed, powerNamed};
+ghost use Rattle.commandline.specs.Grammar.{place, parts, plainOf, allows, kindOf, isAlone, commandNamed, optionNamed, powerNamed};
 use lines::number_of;
 
 pub enum Command {

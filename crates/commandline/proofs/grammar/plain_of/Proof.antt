@@ -1,7 +1,7 @@
 -- Each command, by its constructor.
 use borrow.Author.Needs.{needs}
-use Rattle.grammar.proofs.plain_of.Statement.{statement}
-use Rattle.grammar.proofs.plain_of.Tie as tie
+use Rattle.commandline.proofs.grammar.plain_of.Statement.{statement}
+use Rattle.commandline.proofs.grammar.plain_of.Tie as tie
 
 pub plain-of-spec : {M : Type 1} → statement M
 plain-of-spec =

@@ -1,10 +1,10 @@
 -- The arms of each command, by the options that its list has.
 use mathlib.Core.Path.{refl}
 use borrow.Author.Needs.{needs}
-use Rattle.grammar.specs.declared.Command.the-variants.{Screen, Run, Step, Version, Help}
-use Rattle.grammar.proofs.Options.{taken, refused}
-use Rattle.grammar.proofs.allows.Statement.{statement}
-use Rattle.grammar.proofs.allows.Tie as tie
+use Rattle.commandline.specs.declared.grammar.Command.the-variants.{Screen, Run, Step, Version, Help}
+use Rattle.commandline.proofs.Options.{taken, refused}
+use Rattle.commandline.proofs.grammar.allows.Statement.{statement}
+use Rattle.commandline.proofs.grammar.allows.Tie as tie
 
 pub allows-spec : {M : Type 1} → statement M
 allows-spec =

@@ -1,11 +1,11 @@
 -- Each line's number picks what the line names, and any other number nothing.
 use mathlib.Core.Path.{sym, ap, _∙_}
 use borrow.Author.Needs.{needs}
-use Rattle.grammar.specs.declared.NamedPower.the-variants.{Unknown}
-use Rattle.grammar.specs.Grammar.{powers, powerAt, powerNamed}
-use Rattle.grammar.proofs.Lines.{no-line}
-use Rattle.grammar.proofs.power_named.Statement.{statement}
-use Rattle.grammar.proofs.power_named.Tie as tie
+use Rattle.commandline.specs.declared.grammar.NamedPower.the-variants.{Unknown}
+use Rattle.commandline.specs.Grammar.{powers, powerAt, powerNamed}
+use Rattle.commandline.proofs.Lines.{no-line}
+use Rattle.commandline.proofs.grammar.power_named.Statement.{statement}
+use Rattle.commandline.proofs.grammar.power_named.Tie as tie
 
 pub power-named-spec : {M : Type 1} → statement M
 unfolding powerNamed

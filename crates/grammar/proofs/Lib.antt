@@ -1,3 +1,0 @@
--- What is proved of the grammar's matches.
-pub mod Lines
-pub mod Options

@@ -1,2 +1,0 @@
--- The grammar of the command line.
-pub mod Grammar
