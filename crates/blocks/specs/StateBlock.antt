@@ -14,9 +14,9 @@ use Rattle.definition.specs.Bus.{byteAt}
 use Rattle.sm83.specs.State.{registersOf}
 use Rattle.blocks.specs.declared.state.StateRead.{StateRead}
 use Rattle.blocks.specs.declared.state.StateRead.the-variants.{State, Malformed}
-use Rattle.wellformed.specs.Flags.{flagsWellFormed}
-use Rattle.fields.specs.Bytes.{filled}
-use Rattle.fields.specs.Registers.{registerBytes, registersAt}
+use Rattle.blocks.specs.WellFormed.{flagsWellFormed}
+use Rattle.blocks.specs.Bytes.{filled}
+use Rattle.blocks.specs.Registers.{registerBytes, registersAt}
 
 -- 0 NotHalting, 1 HaltRunInterrupt, 2 HaltNoRunInterrupt, 3 HaltBug
 abbrev pub haltNumber : HaltMode → ℕ

@@ -1,2 +1,6 @@
-// The processor's state as a block of bytes with fixed offsets, on lent slices. Layouts: specs/.
+// Words, registers, the state and the answers as blocks of bytes with fixed offsets, on lent slices, low byte first. Layouts: specs/.
+pub mod answer;
+pub mod bytes;
 pub mod state;
+pub mod verdicts;
+mod wellformed;

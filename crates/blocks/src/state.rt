@@ -3,12 +3,12 @@ ghost use mathlib.Core.Path.{_≡_};
 ghost use Prim.Native.Nat.{_≤_};
 ghost use lib.ListN.{length};
 ghost use Rattle.blocks.specs.StateBlock.{haltNumber, haltAt, stateAt, stateOf, stateBytes};
-use fields::bytes::flag_byte;
-use fields::bytes::front_registers;
-use fields::bytes::put_registers;
+use crate::bytes::flag_byte;
+use crate::bytes::front_registers;
+use crate::bytes::put_registers;
+use crate::wellformed::flags_well_formed;
 use sm83::Cpu;
 use sm83::HaltMode;
-use wellformed::flags_well_formed;
 
 pub const STATE_LENGTH: usize = 24;
 

@@ -1,3 +1,3 @@
--- What is proved of the grammar's words and options.
-pub mod Lines
+-- TODO: laws.
 pub mod Options
+pub mod Lines

@@ -5,7 +5,7 @@ use Prim.Native.Nat.{ℕ}
 use lib.Dec.{eqb}
 use lib.ListN.{getD}
 use Rattle.text.specs.Page.{ascii}
-use Rattle.lines.specs.Lines.{numberOf}
+use Rattle.text.specs.Lines.{numberOf}
 use Rattle.commandline.specs.declared.grammar.Command.{Command}
 use Rattle.commandline.specs.declared.grammar.Command.the-variants.{Screen, Run, Step, Version, Help}
 use Rattle.commandline.specs.declared.grammar.Part.{Part}

@@ -1,6 +1,6 @@
--- What a command line means.
-pub mod Finish
-pub mod Given
+-- TODO: what it states.
 pub mod Line
 pub mod Take
+pub mod Finish
+pub mod Given
 pub mod Grammar

@@ -3,7 +3,7 @@
 ghost use mathlib.Core.Path.{_≡_};
 ghost use Prim.Native.Nat.{_<_};
 ghost use Rattle.commandline.specs.Grammar.{place, parts, plainOf, allows, kindOf, isAlone, commandNamed, optionNamed, powerNamed};
-use lines::number_of;
+use text::lines::number_of;
 
 pub enum Command {
     Screen,

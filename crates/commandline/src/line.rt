@@ -14,7 +14,7 @@ use crate::grammar::Part;
 use crate::grammar::Plain;
 use crate::grammar::Power;
 use crate::grammar::place;
-use number::Fault;
+use text::number::Fault;
 
 // What is wrong with a line: what it is about, and the index of the word.
 pub enum Mistake {

@@ -1,6 +1,6 @@
 // One word of a command line. The first mistake stays.
 ghost use mathlib.Core.Path.{_≡_};
-ghost use Rattle.number.specs.Number.{numberIn};
+ghost use Rattle.text.specs.Number.{numberIn};
 ghost use Rattle.commandline.specs.Grammar.{kindOf, commandNamed, optionNamed, powerNamed};
 ghost use Rattle.commandline.specs.Take.{asNumber, inRange, asAddress, asPower, valueIn, takeValue, takeOption, takeDashed, takePlain, takeCommand, isDashed, takeNext, takeWord};
 use crate::given::Given;
@@ -21,8 +21,8 @@ use crate::grammar::power_named;
 use crate::line::Line;
 use crate::line::Mistake;
 use crate::line::Stage;
-use number::Number;
-use number::number_in;
+use text::number::Number;
+use text::number::number_in;
 
 // A word read as a value.
 pub enum Read {

@@ -1,5 +1,5 @@
--- THE DEFINITION, in reading order.
-pub mod Bus
+-- TODO: what it states.
+pub mod Run
 pub mod Execution
 pub mod Step
-pub mod Run
+pub mod Bus

@@ -1,3 +1,7 @@
--- Laws over plain variables, each applied to what the callees of one function ensure.
-pub mod Computing
-pub mod Parts
+-- TODO: laws.
+pub mod Small
+pub mod Bridge
+pub mod BridgeJump
+pub mod BridgePrefixed
+pub mod BridgeWork
+pub mod Bridge8

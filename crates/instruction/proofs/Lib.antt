@@ -1,2 +1,4 @@
--- What is proved of the tables and their entries.
+-- TODO: laws.
+pub mod Matched
 pub mod Sound
+pub mod Every

@@ -5,7 +5,7 @@ use Prim.Native.Nat.{ℕ, _<_}
 use Rattle.opcodes.specs.Instruction.{decode, decodeCB}
 use Rattle.opcodes.proofs.Tested.{agree}
 use Rattle.instruction.specs.Row.{rowOf, prefixedRow}
-use Rattle.operands.specs.Operand.{readable, writable}
+use Rattle.instruction.specs.Operand.{readable, writable}
 
 pub source-readable : (b : ℕ) → b < 256 → readable (rowOf (decode b) .src) ≡ true
 unfolding decode

@@ -6,14 +6,14 @@ use lib.Dec.{ltb}
 use lib.ListN.{getD}
 use Rattle.sm83.specs.Basics.{if_then_else_}
 use Rattle.opcodes.specs.Instruction.{decode, decodeCB}
-use Rattle.operands.specs.declared.OperandType.{OperandType}
-use Rattle.operands.specs.declared.OperandType.the-variants as ot
-use Rattle.operands.specs.declared.Condition.{Condition}
-use Rattle.operands.specs.declared.Condition.the-variants as cn
+use Rattle.instruction.specs.declared.OperandType.{OperandType}
+use Rattle.instruction.specs.declared.OperandType.the-variants as ot
+use Rattle.instruction.specs.declared.Condition.{Condition}
+use Rattle.instruction.specs.declared.Condition.the-variants as cn
 use Rattle.instruction.specs.declared.Opcode.{Opcode}
 use Rattle.instruction.specs.declared.Opcode.the-variants as op
 use Rattle.instruction.specs.declared.Instruction.{Instruction}
-use Rattle.operands.specs.Numbered.{operandAt, conditionAt}
+use Rattle.instruction.specs.Numbered.{operandAt, conditionAt}
 use Rattle.instruction.specs.Row.{rowOf, prefixedRow}
 
 -- The last of each list stands for every number past it.

@@ -1,3 +1,6 @@
--- The bridge from the definition's instructions to the code's, and what the tables' entries stand for.
+-- TODO: what it states.
+pub mod Operand
+pub mod Holding
+pub mod Numbered
 pub mod Row
 pub mod Entry

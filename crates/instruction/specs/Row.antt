@@ -1,10 +1,10 @@
 -- The row of 001's tables for each instruction of the definition: an operation, where its operand comes from and where its result goes.
 -- "An operand whose kind `exec_instruction` doesn't need is `Implied`."
 use Prim.Native.Nat.{ℕ}
-use Rattle.operands.specs.declared.Condition.{Condition}
-use Rattle.operands.specs.declared.Condition.the-variants as cn
-use Rattle.operands.specs.declared.OperandType.{OperandType}
-use Rattle.operands.specs.declared.OperandType.the-variants as ot
+use Rattle.instruction.specs.declared.Condition.{Condition}
+use Rattle.instruction.specs.declared.Condition.the-variants as cn
+use Rattle.instruction.specs.declared.OperandType.{OperandType}
+use Rattle.instruction.specs.declared.OperandType.the-variants as ot
 use Rattle.instruction.specs.declared.Opcode.{Opcode}
 use Rattle.instruction.specs.declared.Opcode.the-variants as op
 use Rattle.instruction.specs.declared.Instruction.{Instruction}

@@ -4,9 +4,9 @@ ghost use Rattle.opcodes.specs.Instruction.{decode, decodeCB};
 ghost use Rattle.instruction.specs.Row.{rowOf, prefixedRow};
 ghost use Rattle.instruction.specs.Entry.{rowAt, Plain, Prefixed};
 use crate::Instruction;
+use crate::conditions::condition_of;
 use crate::numbered::opcode_of;
-use operands::conditions::condition_of;
-use operands::operand::operand_of;
+use crate::operand::operand_of;
 
 impl Instruction {
     pub fn from_byte(table: &[u32; 256], byte: u8) -> Instruction

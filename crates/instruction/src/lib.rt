@@ -1,9 +1,48 @@
-// Instructions as 000 and 001 shape them: an opcode, where its operand comes from, where its result goes (`operands`). The crate `tables` gives them for each byte.
-use operands::Condition;
-use operands::OperandType;
-
+// Instructions as 000 and 001 shape them: an opcode, where its operand comes from, where its result goes; and the two tables that give one for each byte.
+pub mod conditions;
 pub mod decoding;
-pub mod numbered;
+mod entry_codes;
+pub mod instructions_table;
+mod numbered;
+mod operand;
+pub mod prefixed_table;
+
+pub enum Condition {
+    NC,
+    C,
+    NZ,
+    Z,
+    Unconditional,
+}
+
+pub enum OperandType {
+    RegA,
+    RegB,
+    RegC,
+    RegD,
+    RegE,
+    RegH,
+    RegL,
+    AddrHL,
+    AddrHLDec,
+    AddrHLInc,
+    AddrBC,
+    AddrDE,
+    RegAF,
+    RegBC,
+    RegDE,
+    RegHL,
+    RegSP,
+    Imm8,
+    Imm8Signed,
+    Imm16,
+    HighAddr8,
+    HighAddrC,
+    Addr16,
+    Addr16Val16,
+    // none: a kind that the execution does not need
+    Implied,
+}
 
 pub enum Opcode {
     Nop,

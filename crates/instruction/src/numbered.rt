@@ -1,8 +1,8 @@
 // What an instruction does, and the numbers by which the tables name it.
 ghost use mathlib.Core.Path.{_≡_};
 ghost use Rattle.instruction.specs.Entry.{opcodeAt, opcodeUpToEi, opcodeFromCcf};
+use crate::Condition;
 use crate::Opcode;
-use operands::Condition;
 
 // The three bits that count in the opcodes of RST, BIT, RES and SET are those of the byte itself.
 pub fn opcode_of(n: u8, condition: Condition, byte: u8) -> Opcode

@@ -4,8 +4,8 @@ use mathlib.Core.List.{List}
 use Prim.Native.Nat.{ℕ}
 use denote.Ref.{now}
 use Rattle.sm83.proofs.OneAnswer.{AnyInput}
-use Rattle.calls.specs.Left.{Left, left}
-use Rattle.screencall.specs.Screened.{LeftByScreen, leftByScreen}
+use Rattle.library.specs.Left.{Left, left}
+use Rattle.library.specs.Screened.{LeftByScreen, leftByScreen}
 use Rattle.library.proofs.phk_run.Reads as phk-run
 use Rattle.library.proofs.phk_step.Reads as phk-step
 use Rattle.library.proofs.phk_screen.Reads as phk-screen

@@ -1,2 +1,2 @@
--- That the contracts leave one answer.
+-- TODO: laws.
 pub mod Determined

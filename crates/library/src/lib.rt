@@ -1,10 +1,13 @@
 // The core for C and Rust to link: a step, a run and the screen on blocks of bytes (include/phkarotuk.h has the offsets).
 // Each answers the document's number, or 255 if a block is malformed; then nothing is changed.
 ghost use mathlib.Core.Path.{_≡_};
-ghost use Rattle.calls.specs.Left.{left, runBlocks};
-ghost use Rattle.screencall.specs.Screened.{leftByScreen, screenBlocks};
-use calls::run_blocks;
-use screencall::screen_blocks;
+ghost use Rattle.library.specs.Left.{left, runBlocks};
+ghost use Rattle.library.specs.Screened.{leftByScreen, screenBlocks};
+use crate::calls::run_blocks;
+use crate::screencall::screen_blocks;
+
+pub mod calls;
+pub mod screencall;
 
 #[no_mangle]
 pub extern "C" fn phk_run(state: &mut [u8], mem: &mut [u8], budget: u16, answer: &mut [u8]) -> u16

@@ -1,16 +1,14 @@
--- What is proved of the instructions, by subject.
--- computed tests, flags and arithmetic
-pub mod Tested
-pub mod Choices
-pub mod Flags
-pub mod Carries
-pub mod WordCarries
-pub mod Shifts
-pub mod SingleBits
-pub mod OneBit
-pub mod Logic
-pub mod Decimal
--- the illegal opcodes, and the published columns of flags
+-- TODO: laws.
 pub mod Illegal
-pub mod FlagColumns
+pub mod OneBit
+pub mod WordCarries
+pub mod Logic
 pub mod FlagLaws
+pub mod Shifts
+pub mod Decimal
+pub mod FlagColumns
+pub mod Flags
+pub mod Choices
+pub mod Carries
+pub mod Tested
+pub mod SingleBits

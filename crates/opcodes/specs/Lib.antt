@@ -1,4 +1,4 @@
--- The instructions, in reading order: the opcodes, the published tables, what an instruction computes.
-pub mod Instruction
+-- TODO: what it states.
 pub mod Published
+pub mod Instruction
 pub mod Arithmetic

@@ -1,4 +1,3 @@
--- Which operands can be read and written, the numbers of operands and conditions, when a condition holds.
-pub mod Operand
-pub mod Numbered
-pub mod Holding
+-- TODO: what it states.
+pub mod Operands
+pub mod Widths

@@ -1,40 +1,5 @@
-// Where an operand comes from or a result goes, and what a jump goes by, as 001 has them.
-pub mod conditions;
-pub mod operand;
-
-pub enum Condition {
-    NC,
-    C,
-    NZ,
-    Z,
-    Unconditional,
-}
-
-pub enum OperandType {
-    RegA,
-    RegB,
-    RegC,
-    RegD,
-    RegE,
-    RegH,
-    RegL,
-    AddrHL,
-    AddrHLDec,
-    AddrHLInc,
-    AddrBC,
-    AddrDE,
-    RegAF,
-    RegBC,
-    RegDE,
-    RegHL,
-    RegSP,
-    Imm8,
-    Imm8Signed,
-    Imm16,
-    HighAddr8,
-    HighAddrC,
-    Addr16,
-    Addr16Val16,
-    // none: a kind that the execution does not need
-    Implied,
-}
+// Where an operand comes from and where a result goes: `read_operand`, `write_operand`, `stack_push` and `stack_pop` of the Rust.
+pub mod destinations;
+mod places;
+pub mod sources;
+pub mod stack;

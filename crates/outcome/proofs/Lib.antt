@@ -1,3 +1,3 @@
--- That the contracts leave one answer, and that number and values tell which it is.
+-- TODO: laws.
 pub mod Determined
 pub mod Told

@@ -1,3 +1,3 @@
--- An interrupt's number; the document's numbers, and the values that come with them.
-pub mod Interrupts
+-- TODO: what it states.
 pub mod Numbers
+pub mod Interrupts

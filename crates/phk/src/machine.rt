@@ -1,32 +1,32 @@
 // phk run and phk step.
+use crate::ends::clear_progress;
+use crate::ends::print_all_changes;
+use crate::ends::print_end;
+use crate::ends::saved;
+use crate::ends::show_progress;
+use crate::far::Far;
+use crate::far::budget;
+use crate::far::over;
+use crate::far::rest;
+use crate::far::started;
+use crate::said::Env;
 use commandline::grammar::Part;
 use commandline::line::Line;
-use course::ends::clear_progress;
-use course::ends::print_all_changes;
-use course::ends::print_end;
-use course::ends::saved;
-use course::ends::show_progress;
-use course::far::Far;
-use course::far::budget;
-use course::far::over;
-use course::far::rest;
-use course::far::started;
 use outcome::LastOutcome;
 use run::run;
 use run::step;
-use saying::said::Env;
 
 // A step with its line: what stands before it, then what it did.
 fn traced(far: Far, mem: &mut [u8]) -> Far {
     let cpu = far.cpu;
     let before = cpu.registers;
     let pc = before.pc;
-    sentences::tracing(mem, pc.0, before);
+    crate::sentences::tracing(mem, pc.0, before);
     let x = step(cpu, mem);
     let cycles = x.cycles;
     let outcome = x.outcome;
     let last = outcome.number();
-    sentences::traced(before.f, cycles.0 as u64, last);
+    crate::sentences::traced(before.f, cycles.0 as u64, last);
     let next = x.cpu;
     Far {
         cpu: next,
@@ -74,7 +74,7 @@ fn pieces(far: Far, mem: &mut [u8], count: u64, size: u16, trace: bool, total: u
 
 fn run_all(far: Far, mem: &mut [u8], steps: u64, trace: bool, progress: bool) -> Far {
     if trace {
-        sentences::trace_head();
+        crate::sentences::trace_head();
         return pieces(far, mem, steps, 1, true, 0);
     }
     let total = if progress { steps } else { 0 };
@@ -105,7 +105,7 @@ fn stepped(line: Line, mem: &mut [u8]) -> u8 {
     text::page::put(&mut old, 0, mem);
     let end = ran(started_at(line), mem, 1);
     let status = print_end(end, mem);
-    sentences::accesses(end.cycles);
+    crate::sentences::accesses(end.cycles);
     print_all_changes(&old, mem);
     status
 }

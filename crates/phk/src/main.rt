@@ -1,18 +1,23 @@
 // The field tool: phk screen, run, step, version and help. What it says is in `saying` and `sentences`, the files that it reads and writes in `files`,
 // the screen in `tool`, what the command line means in `commandline`; here the line is read and obeyed.
+mod ends;
+mod far;
+mod files;
+mod help;
 mod machine;
+mod mistakes;
+mod page;
+mod said;
+mod screening;
+mod sentences;
 
+use crate::said::Env;
 use commandline::finish::Asked;
 use commandline::finish::finish;
 use commandline::grammar::Command;
 use commandline::line::Line;
 use commandline::line::Mistake;
 use commandline::take::take;
-use saying::help;
-use saying::mistakes;
-use saying::said;
-use saying::said::Env;
-use tool::screening;
 
 // The words of the command line, from one on.
 fn read_words(first: usize) -> Line {
@@ -34,7 +39,7 @@ fn read_word(line: Line, i: usize) -> Line {
 
 fn screen(line: Line, env: Env) -> u8 {
     let mut mem = io::large_buffer();
-    if files::load(line, &mut mem) {
+    if crate::files::load(line, &mut mem) {
         return screening::screening(line, &mem, env);
     }
     said::REFUSED
@@ -42,7 +47,7 @@ fn screen(line: Line, env: Env) -> u8 {
 
 fn run(line: Line, env: Env) -> u8 {
     let mut mem = io::large_buffer();
-    if files::load(line, &mut mem) {
+    if crate::files::load(line, &mut mem) {
         return machine::running(line, &mut mem, env);
     }
     said::REFUSED
@@ -50,13 +55,13 @@ fn run(line: Line, env: Env) -> u8 {
 
 fn step(line: Line, env: Env) -> u8 {
     let mut mem = io::large_buffer();
-    if files::load(line, &mut mem) {
+    if crate::files::load(line, &mut mem) {
         return machine::stepping(line, &mut mem, env);
     }
     said::REFUSED
 }
 
-fn help(command: Command) -> u8 {
+fn show_help(command: Command) -> u8 {
     help::help(command);
     said::DONE
 }
@@ -77,13 +82,13 @@ fn obey(command: Command, line: Line, env: Env) -> u8 {
         Command::Run => run(line, env),
         Command::Step => step(line, env),
         Command::Version => version(),
-        Command::Help => help(command),
+        Command::Help => show_help(command),
     }
 }
 
 fn answer(line: Line, env: Env) -> u8 {
     match finish(line) {
-        Asked::Help(command) => help(command),
+        Asked::Help(command) => show_help(command),
         Asked::Obey(command) => obey(command, line, env),
         Asked::Mistaken(mistake) => mistaken(mistake),
     }

@@ -4,16 +4,16 @@ use mathlib.Core.List.{List}
 use Prim.Native.Nat.{ℕ}
 use denote.Ref.{now}
 use Rattle.sm83.specs.declared.Cpu.{Cpu}
-use Rattle.verdict.specs.declared.Verdict.{Verdict}
+use Rattle.routine.specs.declared.Verdict.{Verdict}
 use Rattle.definition.specs.Bus as Bus
 use Rattle.definition.specs.Bus.{plain, mcycles}
 use Rattle.definition.specs.Step.{Ended, stepOn}
 use Rattle.definition.specs.Run.{RunAnswer, runFor}
 use Rattle.routine.specs.Screen.{screen}
-use Rattle.ending.specs.declared.Ran.{Ran}
-use Rattle.ending.specs.Ran.{answer}
+use Rattle.run.specs.declared.Ran.{Ran}
+use Rattle.run.specs.Ran.{answer}
 use Rattle.run.specs.declared.Stepped.{Stepped}
-use Rattle.screen.proofs.screen.screen.Reads as the-screen
+use Rattle.screen.proofs.screen.Reads as the-screen
 use Rattle.run.proofs.step.Reads as the-step
 use Rattle.run.proofs.run.Reads as the-run
 

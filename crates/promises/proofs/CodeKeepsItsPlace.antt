@@ -6,7 +6,7 @@ use native.Mathlib.Omega.{arith}
 use lib.Dec.{T}
 use lib.ListN.{length}
 use Rattle.sm83.specs.declared.Cpu.{Cpu}
-use Rattle.verdict.specs.declared.Verdict.the-variants.{Passes}
+use Rattle.routine.specs.declared.Verdict.the-variants.{Passes}
 use Rattle.definition.specs.Bus.{Ran, plain}
 use Rattle.sm83.specs.State.{pc}
 use Rattle.definition.specs.Step.{Ended, stepOn}

@@ -8,7 +8,7 @@ use lib.Seq.{getD-drop}
 use borrow.Author.Tests.{le-leb, lt-leb}
 use Rattle.sm83.specs.Basics.{word}
 use Rattle.definition.specs.Bus.{byteAt}
-use Rattle.fields.specs.Bytes.{wordAt}
+use Rattle.blocks.specs.Bytes.{wordAt}
 use Rattle.records.specs.Front.{frontSize}
 use Rattle.records.proofs.Within.{within}
 

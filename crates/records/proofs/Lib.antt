@@ -1,4 +1,4 @@
--- The laws behind reading a record.
+-- TODO: laws.
 pub mod Patching
 pub mod Within
 pub mod Noting

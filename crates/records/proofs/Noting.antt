@@ -10,7 +10,7 @@ use borrow.Author.Tests.{eq-eqb, ne-eqb, lt-ltb, le-ltb}
 use Rattle.definition.specs.Bus.{byteAt, pending}
 use Rattle.outcome.specs.declared.interrupt.NextInterrupt.{NextInterrupt}
 use Rattle.outcome.specs.Interrupts.{isPending}
-use Rattle.fields.specs.Bytes.{wordAt}
+use Rattle.blocks.specs.Bytes.{wordAt}
 use Rattle.records.specs.Bytes.{part}
 use Rattle.records.specs.Record.{kindOf, memoryLength, listed, memoryFrom}
 use Rattle.records.specs.Notes.{counted, fetches, opcodeOf, prefixNoted, fetchNoted, opcodeNoted, runNoted, noted}

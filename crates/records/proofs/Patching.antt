@@ -5,7 +5,7 @@ use Prim.Native.Nat.{ℕ, zero, suc, _+_, _-_, _<_}
 use native.Mathlib.Omega.{arith}
 use lib.ListN.{set}
 use Rattle.definition.specs.Bus.{byteAt}
-use Rattle.fields.specs.Bytes.{wordAt}
+use Rattle.blocks.specs.Bytes.{wordAt}
 use Rattle.records.specs.Bytes.{patched}
 
 pub patch-none : (r : List ℕ) (at n : ℕ) (m : List ℕ) → n ≡ 0 → patched r at n m ≡ m

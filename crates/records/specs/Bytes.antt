@@ -3,7 +3,7 @@ use mathlib.Core.List.{List}
 use Prim.Native.Nat.{ℕ, zero, suc, _+_, _-_}
 use lib.ListN.{take, drop, set}
 use Rattle.definition.specs.Bus.{byteAt}
-use Rattle.fields.specs.Bytes.{wordAt}
+use Rattle.blocks.specs.Bytes.{wordAt}
 
 -- from one offset up to, not including, another
 abbrev pub part : List ℕ → ℕ → ℕ → List ℕ

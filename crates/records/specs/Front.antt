@@ -4,7 +4,7 @@ use Prim.Native.Nat.{ℕ}
 use lib.Dec.{leb}
 use lib.ListN.{length}
 use Rattle.sm83.specs.Basics.{if_then_else_}
-use Rattle.fields.specs.Bytes.{wordAt}
+use Rattle.blocks.specs.Bytes.{wordAt}
 
 -- the length of the record at the front, as its first two bytes say; 0 if no whole record stands there
 abbrev pub frontSize : List ℕ → ℕ

@@ -1,5 +1,5 @@
--- What a record says.
-pub mod Bytes
-pub mod Record
+-- TODO: what it states.
 pub mod Notes
 pub mod Front
+pub mod Record
+pub mod Bytes

@@ -7,7 +7,7 @@ use mathlib.Core.List.{List}
 use Prim.Native.Nat.{ℕ, _+_, _*_}
 use lib.ListN.{replicate}
 use Rattle.definition.specs.Bus.{byteAt}
-use Rattle.fields.specs.Bytes.{wordAt}
+use Rattle.blocks.specs.Bytes.{wordAt}
 use Rattle.records.specs.Bytes.{patched}
 
 abbrev pub kindOf : List ℕ → ℕ

@@ -3,7 +3,7 @@ ghost use mathlib.Core.Path.{_≡_};
 ghost use Prim.Native.Nat.{_+_, _≤_};
 ghost use lib.ListN.{length, drop};
 ghost use Rattle.records.specs.Front.{frontSize};
-use fields::bytes::word_at;
+use blocks::bytes::word_at;
 
 // The length of the record that stands at an offset of a sample; 0 if no whole record stands there.
 pub fn front_size(file: &[u8], at: usize) -> usize

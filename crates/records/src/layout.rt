@@ -4,8 +4,8 @@ ghost use Prim.Native.Nat.{_+_, _*_, _≤_};
 ghost use lib.ListN.{length};
 ghost use Rattle.records.specs.Record.{memoryLength, listed, changed, memoryFrom};
 use crate::slices::patch;
-use fields::bytes::word_at;
-use shapes::window::clear;
+use blocks::bytes::word_at;
+use screen::window::clear;
 
 pub fn memory_length(item: &[u8]) -> usize
     requires { ⌜ 15 ≤ length (now item) ⌝ }

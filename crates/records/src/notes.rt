@@ -8,8 +8,8 @@ use crate::layout::lay;
 use crate::layout::listed;
 use crate::layout::memory_length;
 use crate::layout::wide;
-use fields::bytes::word_at;
-use memory::interrupts::lowest_pending;
+use blocks::bytes::word_at;
+use bus::interrupts::lowest_pending;
 use sm83::Addr;
 
 // Where the counts stand: opcodes at 0 to 511 (after CB from 256 on), then 256 places for each of the others.

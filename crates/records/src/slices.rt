@@ -3,7 +3,7 @@ ghost use mathlib.Core.Path.{_≡_};
 ghost use Prim.Native.Nat.{_+_, _*_, _≤_};
 ghost use lib.ListN.{length, set};
 ghost use Rattle.records.specs.Bytes.{patched};
-use fields::bytes::word_at;
+use blocks::bytes::word_at;
 
 // An address past the end is passed over.
 fn put(s: &mut [u8], at: usize, v: u8)

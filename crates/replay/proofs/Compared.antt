@@ -4,10 +4,10 @@ use mathlib.Core.Bool.{Bool}
 use mathlib.Core.List.{List}
 use Prim.Native.Nat.{ℕ, _+_, _*_}
 use lib.ListN.{replicate}
-use Rattle.fields.specs.Bytes.{wordAt}
-use Rattle.calls.specs.Left.{left, runBlocks}
+use Rattle.blocks.specs.Bytes.{wordAt}
+use Rattle.library.specs.Left.{left, runBlocks}
 use Rattle.records.specs.Bytes.{part, patched}
-use Rattle.told.specs.Told.{leftAsTold}
+use Rattle.replay.specs.AsTold.{leftAsTold}
 use Rattle.records.specs.Record.{kindOf, listed, changed, memoryFrom}
 use Rattle.replay.specs.Told.{budgetOf, asked, told, sameLeft}
 

@@ -8,7 +8,7 @@ use lib.ListN.{length}
 use borrow.Author.Tests.{eq-eqb, ne-eqb, le-leb, lt-leb}
 use Rattle.records.specs.Record.{kindOf, nameLength, memoryLength, listed, changed}
 use Rattle.replay.specs.Told.{asked, told, sameLeft}
-use Rattle.windows.specs.Window.{agreesWindow}
+use Rattle.replay.specs.Window.{agreesWindow}
 use Rattle.replay.specs.Replay.{runSize, agreesRun, agrees}
 
 module _ (r : List ℕ) {n k w : ℕ} (listing : n ≡ listed r) (changing : k ≡ changed r) (naming : w ≡ nameLength r) where

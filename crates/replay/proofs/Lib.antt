@@ -1,5 +1,5 @@
--- The laws behind the comparison of one record.
-pub mod Compared
+-- TODO: laws.
 pub mod Judged
+pub mod Compared
 pub mod Differing
 pub mod Means

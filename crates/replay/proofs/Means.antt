@@ -6,13 +6,13 @@ use Prim.Native.Nat.{ℕ}
 use lib.Dec.{eqb}
 use lib.ListN.{length}
 use borrow.Author.Tests.{eqb-true}
-use Rattle.calls.specs.Left.{Left, left}
-use Rattle.same.specs.Bytes.{sameBytes}
+use Rattle.library.specs.Left.{Left, left}
+use Rattle.text.specs.Same.{sameBytes}
 use Rattle.records.specs.Record.{memoryLength}
 use Rattle.replay.specs.Told.{asked, told, sameLeft}
 use Rattle.replay.specs.Replay.{runSize, agreesRun}
-use Rattle.same.proofs.SameBytes.{and-first, and-second, same-equal}
-use Rattle.windows.proofs.Windowed.{chosen}
+use Rattle.text.proofs.same.SameBytes.{and-first, and-second, same-equal}
+use Rattle.replay.proofs.windows.Windowed.{chosen}
 
 same-left : (a b : Left) → sameLeft a b ≡ true → a ≡ b
 same-left a b h =

@@ -1,3 +1,5 @@
--- What a record of the stored sample says, and when the core agrees with it.
+-- TODO: what it states.
+pub mod AsTold
+pub mod Window
 pub mod Told
 pub mod Replay

@@ -5,11 +5,11 @@ use Prim.Native.Nat.{ℕ, zero, suc, _+_, _*_}
 use lib.Dec.{eqb, leb}
 use lib.ListN.{length, take, drop}
 use Rattle.sm83.specs.Basics.{if_then_else_, bit}
-use Rattle.fields.specs.Bytes.{wordAt}
+use Rattle.blocks.specs.Bytes.{wordAt}
 use Rattle.records.specs.Record.{kindOf, nameLength, memoryLength, listed, changed}
 use Rattle.records.specs.Front.{frontSize}
 use Rattle.replay.specs.Told.{asked, told, sameLeft}
-use Rattle.windows.specs.Window.{agreesWindow}
+use Rattle.replay.specs.Window.{agreesWindow}
 
 -- the longest memory that a record may ask for
 abbrev pub mostMemory : ℕ

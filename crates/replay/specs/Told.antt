@@ -5,10 +5,10 @@ use Prim.Native.Nat.{ℕ, _+_, _*_}
 use lib.Dec.{eqb}
 use lib.ListN.{replicate}
 use Rattle.sm83.specs.Basics.{if_then_else_}
-use Rattle.fields.specs.Bytes.{wordAt}
-use Rattle.calls.specs.Left.{Left, left, runBlocks}
+use Rattle.blocks.specs.Bytes.{wordAt}
+use Rattle.library.specs.Left.{Left, left, runBlocks}
 use Rattle.records.specs.Bytes.{part, patched}
-use Rattle.same.specs.Bytes.{sameBytes}
+use Rattle.text.specs.Same.{sameBytes}
 use Rattle.records.specs.Record.{kindOf, listed, changed, memoryFrom}
 
 abbrev pub budgetOf : ℕ → ℕ → ℕ

@@ -1,11 +1,15 @@
 // Replays the stored sample: replay FILE. Each record is asked of the core and every value compared; then what was met is counted.
+mod report;
 mod rounds;
 mod runs;
+mod said;
 mod sample;
+mod told;
+mod windows;
 
+use crate::report::report;
 use libc::STDERR_FILENO;
 use libc::STDOUT_FILENO;
-use report::report;
 use rounds::replay;
 
 fn replay_file(file: &[u8]) {

@@ -4,16 +4,16 @@ ghost use mathlib.Core.Bool.{not};
 ghost use Prim.Native.Nat.{_+_, _≤_};
 ghost use Rattle.sm83.specs.Basics.{bit};
 ghost use Rattle.replay.specs.Replay.{agrees, differs};
+use crate::said::say_cut;
+use crate::said::say_differs;
+use crate::said::say_rest;
+use crate::said::say_row;
+use crate::said::say_short;
 use crate::sample::agrees;
-use fields::bytes::word_at;
+use crate::told::one_unless;
+use blocks::bytes::word_at;
 use records::front::front_size;
 use records::notes::note;
-use report::said::say_cut;
-use report::said::say_differs;
-use report::said::say_rest;
-use report::said::say_row;
-use report::said::say_short;
-use told::one_unless;
 
 // 1 if the core does not agree with the record, which is then named.
 fn round(

@@ -2,19 +2,19 @@
 ghost use mathlib.Core.Path.{_≡_};
 ghost use Prim.Native.Nat.{_+_, _*_, _≤_};
 ghost use lib.ListN.{length};
-ghost use Rattle.calls.specs.Left.{left, runBlocks};
+ghost use Rattle.library.specs.Left.{left, runBlocks};
 ghost use Rattle.records.specs.Record.{memoryLength, changed};
 ghost use Rattle.replay.specs.Told.{budgetOf, changesAt, asked, told, sameLeft};
 ghost use Rattle.replay.specs.Replay.{agreesRun};
-use calls::run_blocks;
-use fields::bytes::word_at;
+use crate::told::as_told;
+use blocks::bytes::word_at;
+use library::calls::run_blocks;
 use records::layout::changed;
 use records::layout::lay;
 use records::layout::listed;
 use records::layout::memory_length;
 use records::layout::wide;
 use records::slices::patch;
-use told::as_told;
 
 fn ask(kind: u8, state: &mut [u8], mem: &mut [u8], budget: u16, answer: &mut [u8]) -> u16
     ensures { λ r. ⌜ left r (now (state .exit)) (now (mem .exit)) (now (answer .exit)) ≡ runBlocks (budgetOf kind budget) (now (state .entry)) (now (mem .entry)) (now (answer .entry)) ⌝ }

@@ -2,8 +2,8 @@
 ghost use mathlib.Core.Path.{_≡_};
 ghost use Rattle.replay.specs.Replay.{agrees};
 use crate::runs::run_agrees;
+use crate::windows::window_agrees;
 use records::layout::memory_length;
-use windows::window_agrees;
 
 const MOST_MEMORY: usize = 131072;
 

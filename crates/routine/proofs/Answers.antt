@@ -4,9 +4,9 @@ use mathlib.Core.Logic.{_⊎_, inl, inr, _↔_}
 use mathlib.Core.List.{List}
 use Prim.Native.Nat.{ℕ, _+_}
 use lib.ListN.{getD, replicate}
-use Rattle.verdict.specs.declared.ScreenRefusal.{ScreenRefusal}
-use Rattle.verdict.specs.declared.Verdict.{Verdict}
-use Rattle.verdict.specs.declared.Verdict.the-variants.{Passes, Refused, RefusedAt}
+use Rattle.routine.specs.declared.ScreenRefusal.{ScreenRefusal}
+use Rattle.routine.specs.declared.Verdict.{Verdict}
+use Rattle.routine.specs.declared.Verdict.the-variants.{Passes, Refused, RefusedAt}
 use Rattle.routine.specs.Rules.{Start, Rules}
 use Rattle.routine.specs.Screen.{marksOf, marksAfter, verdict, Screened, screen}
 use Rattle.routine.proofs.Marks.{MarkOf, each-mark}

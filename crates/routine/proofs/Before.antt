@@ -8,9 +8,9 @@ use native.Mathlib.Omega.{arith}
 use lib.Dec.{eqb, ltb}
 use lib.ListN.{length}
 use borrow.Author.Tests.{ltb-true, ltb-false, eqb-true, eqb-false, lt-ltb, le-ltb, eq-eqb, ne-eqb}
-use Rattle.verdict.specs.declared.ScreenRefusal.{ScreenRefusal}
-use Rattle.verdict.specs.declared.ScreenRefusal.the-variants.{MemoryLength, WindowReversed, WindowTooLong, MarksLength}
-use Rattle.verdict.specs.declared.Verdict.the-variants.{Refused}
+use Rattle.routine.specs.declared.ScreenRefusal.{ScreenRefusal}
+use Rattle.routine.specs.declared.ScreenRefusal.the-variants.{MemoryLength, WindowReversed, WindowTooLong, MarksLength}
+use Rattle.routine.specs.declared.Verdict.the-variants.{Refused}
 use Rattle.routine.specs.Rules.{Rules}
 use Rattle.routine.specs.Screen.{verdict, Screened, marksAfter, untouched, longestWindow, screen}
 use Rattle.routine.proofs.Findings.{Shows}

@@ -10,9 +10,9 @@ use native.Mathlib.Omega.{arith}
 use lib.Dec.{T, T-not}
 use lib.ListN.{length}
 use Rattle.sm83.specs.declared.Addr.{Addr}
-use Rattle.verdict.specs.declared.ScreenRefusal.{ScreenRefusal}
-use Rattle.verdict.specs.declared.Verdict.{Verdict}
-use Rattle.verdict.specs.declared.Verdict.the-variants.{Passes, Refused, RefusedAt}
+use Rattle.routine.specs.declared.ScreenRefusal.{ScreenRefusal}
+use Rattle.routine.specs.declared.Verdict.{Verdict}
+use Rattle.routine.specs.declared.Verdict.the-variants.{Passes, Refused, RefusedAt}
 use Rattle.routine.specs.Flow.{classAt, past, endsRoutine}
 use Rattle.routine.specs.Rules.{Start, at-first, after, Rules}
 use Rattle.routine.specs.Screen.{marksOf, isMarked, tests, findings, verdict}

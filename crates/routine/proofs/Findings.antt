@@ -5,11 +5,11 @@ use mathlib.Core.List.{List, [], _∷_}
 use Prim.Native.Nat.{ℕ, zero, suc, _≤_, _<_}
 use native.Mathlib.Omega.{arith}
 use lib.Dec.{T, eqb}
-use Rattle.verdict.specs.declared.ScreenRefusal.{ScreenRefusal}
-use Rattle.verdict.specs.declared.ScreenRefusal.the-variants.{ForbiddenOpcode, PastTheEnd, FallsThrough, JumpUnmarked}
-use Rattle.verdict.specs.declared.Verdict.{Verdict}
-use Rattle.verdict.specs.declared.Verdict.the-variants.{Passes, Refused, RefusedAt}
-use Rattle.verdict.specs.Numbers.{numberOf}
+use Rattle.routine.specs.declared.ScreenRefusal.{ScreenRefusal}
+use Rattle.routine.specs.declared.ScreenRefusal.the-variants.{ForbiddenOpcode, PastTheEnd, FallsThrough, JumpUnmarked}
+use Rattle.routine.specs.declared.Verdict.{Verdict}
+use Rattle.routine.specs.declared.Verdict.the-variants.{Passes, Refused, RefusedAt}
+use Rattle.routine.specs.Numbers.{numberOf}
 use Rattle.sm83.specs.Basics.{if_then_else_}
 use Rattle.routine.specs.Flow.{classAt, past, isForbidden, endsRoutine}
 use Rattle.routine.specs.Rules.{Start, JumpsTo}

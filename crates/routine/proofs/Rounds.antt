@@ -7,9 +7,9 @@ use native.Mathlib.Nat.{eq-or-lt-of-le}
 use native.Mathlib.Omega.{arith}
 use lib.Dec.{T-not}
 use lib.Ieee.Bits.{is-true, is-false}
-use Rattle.verdict.specs.declared.ScreenRefusal.{ScreenRefusal}
-use Rattle.verdict.specs.declared.Verdict.{Verdict}
-use Rattle.verdict.specs.declared.Verdict.the-variants.{Passes, Refused, RefusedAt}
+use Rattle.routine.specs.declared.ScreenRefusal.{ScreenRefusal}
+use Rattle.routine.specs.declared.Verdict.{Verdict}
+use Rattle.routine.specs.declared.Verdict.the-variants.{Passes, Refused, RefusedAt}
 use Rattle.routine.specs.Flow.{classAt, isForbidden, endsRoutine}
 use Rattle.routine.specs.Screen.{firstOf}
 use Rattle.routine.proofs.Findings.{Asks, refusalAt, place, Every, Before, LowestAt, Finding, forbidden, runs-past, falls-through, strays, Shows}

@@ -6,8 +6,8 @@ use mathlib.Core.List.{List}
 use Prim.Native.Nat.{ℕ, zero, suc, _+_, _≤_, _<_}
 use native.Mathlib.Omega.{arith}
 use lib.Dec.{T}
-use Rattle.verdict.specs.declared.ScreenRefusal.the-variants.{ForbiddenOpcode, PastTheEnd}
-use Rattle.verdict.specs.declared.Verdict.{Verdict}
+use Rattle.routine.specs.declared.ScreenRefusal.the-variants.{ForbiddenOpcode, PastTheEnd}
+use Rattle.routine.specs.declared.Verdict.{Verdict}
 use Rattle.sm83.specs.Basics.{if_then_else_}
 use Rattle.opcodes.specs.Instruction.{operands}
 use Rattle.routine.specs.Flow.{classAt, instructionAt, past, isForbidden}

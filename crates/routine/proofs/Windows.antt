@@ -3,10 +3,10 @@ use mathlib.Core.Path.{_≡_, refl}
 use mathlib.Core.List.{List, [], _∷_, map}
 use Prim.Native.Nat.{ℕ}
 use lib.ListN.{length}
-use Rattle.verdict.specs.declared.Verdict.{Verdict}
-use Rattle.verdict.specs.declared.Verdict.the-variants.{Passes, Refused, RefusedAt}
+use Rattle.routine.specs.declared.Verdict.{Verdict}
+use Rattle.routine.specs.declared.Verdict.the-variants.{Passes, Refused, RefusedAt}
 use Rattle.opcodes.specs.Instruction.{decode}
-use Rattle.verdict.specs.Numbers.{numberOf}
+use Rattle.routine.specs.Numbers.{numberOf}
 use Rattle.routine.specs.Flow.{flowAt}
 use Rattle.routine.specs.Screen.{marksFrom, walk, scan, verdict, marksAfter}
 

@@ -1,5 +1,6 @@
--- The definition of the screen, in reading order.
-pub mod Flow
-pub mod Rules
-pub mod Screen
+-- TODO: what it states.
+pub mod Numbers
 pub mod Trace
+pub mod Flow
+pub mod Screen
+pub mod Rules

@@ -5,8 +5,8 @@ use Prim.Native.Nat.{ℕ}
 use lib.ListN.{length}
 use Rattle.definition.specs.Bus.{Bus}
 use Rattle.ranges.proofs.Ranges.{Sized, Lawful, Bytes, plain-sized, plain-lawful}
-use Rattle.memory.specs.World.{behind}
-use Rattle.memory.proofs.Following.{Follows, SameBytes, follows-behind}
+use Rattle.bus.specs.World.{behind}
+use Rattle.bus.proofs.Following.{Follows, SameBytes, follows-behind}
 
 pub record Behind (b : Bus (List ℕ)) : Type 0 where
   -- the code's memory follows it

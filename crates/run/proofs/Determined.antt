@@ -5,8 +5,8 @@ use denote.Ref.{now}
 use Rattle.sm83.specs.declared.Cpu.{Cpu}
 use Rattle.sm83.proofs.OneAnswer.{AnyInput}
 use Rattle.outcome.specs.declared.Outcome.{Outcome}
-use Rattle.ending.specs.declared.Ran.{Ran}
-use Rattle.ending.proofs.Determined.{same-run}
+use Rattle.run.specs.declared.Ran.{Ran}
+use Rattle.run.proofs.ending.Determined.{same-run}
 use Rattle.run.specs.declared.Stepped.{Stepped}
 use Rattle.run.proofs.run.Reads as run
 use Rattle.run.proofs.step.Reads as step

@@ -17,10 +17,10 @@ use Rattle.opcodes.proofs.Choices.{if-so, if-not}
 use Rattle.definition.proofs.StepRuns.{accepted-step}
 use Rattle.definition.proofs.StepCycles.{accepted-one-to-eight}
 use Rattle.ranges.proofs.Ranges.{Bytes, InRange, step-ranges, step-size}
-use Rattle.memory.specs.declared.Port.{Port}
-use Rattle.memory.specs.World.{Led, world}
-use Rattle.memory.proofs.Following.{SameBytes, Followed, arrive}
-use Rattle.accesses.specs.Leads.{Leads}
+use Rattle.bus.specs.declared.Port.{Port}
+use Rattle.bus.specs.World.{Led, world}
+use Rattle.bus.proofs.Following.{SameBytes, Followed, arrive}
+use Rattle.bus.specs.Leads.{Leads}
 use Rattle.run.proofs.Behind.{Behind}
 
 -- so many steps and M-cycles more

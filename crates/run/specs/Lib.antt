@@ -1,2 +1,3 @@
--- What a run and a step answer, told as the definition tells it.
+-- TODO: what it states.
+pub mod Ran
 pub mod Answers

@@ -2,18 +2,25 @@
 ghost use mathlib.Core.Path.{_≡_};
 ghost use Rattle.definition.specs.Bus.{plain};
 ghost use Rattle.definition.specs.Run.{runFor};
-ghost use Rattle.ending.specs.Ran.{answer};
+ghost use Rattle.run.specs.Ran.{answer};
 ghost use Rattle.run.specs.Answers.{outcomeOf, Answers};
+use crate::ending::refused;
 use crate::repeat::repeat;
-use ending::Ran;
-use ending::refused;
 use outcome::LastOutcome;
 use outcome::Outcome;
 use outcome::Refusal;
 use sm83::Cpu;
 use sm83::MCycles;
 
+pub mod ending;
 mod repeat;
+
+pub struct Ran {
+    pub last: LastOutcome,
+    pub cpu: Cpu,
+    pub steps: u16,
+    pub cycles: MCycles,
+}
 
 pub struct Stepped {
     pub outcome: Outcome,

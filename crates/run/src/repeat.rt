@@ -4,17 +4,17 @@ ghost use Prim.Native.Nat.{_%_};
 ghost use Rattle.outcome.specs.declared.LastOutcome.the-variants.{NothingRun};
 ghost use Rattle.sm83.specs.State.{flags};
 ghost use Rattle.definition.specs.Run.{repeated};
-ghost use Rattle.memory.specs.World.{Given, behind};
-ghost use Rattle.ending.specs.Ran.{answer};
-use cpu::step::next_instruction;
-use ending::Ran;
-use ending::stops;
-use memory::Port;
+ghost use Rattle.bus.specs.World.{Given, behind};
+ghost use Rattle.run.specs.Ran.{answer};
+use crate::Ran;
+use crate::ending::stops;
+use bus::Port;
+use instruction::instructions_table::instructions;
+use instruction::prefixed_table::prefixed_instructions;
 use outcome::LastOutcome;
 use sm83::Cpu;
 use sm83::MCycles;
-use tables::instructions_table::instructions;
-use tables::prefixed_table::prefixed_instructions;
+use step::next_instruction;
 
 pub fn repeat(cpu: Cpu, mem: &mut [u8], budget: u16) -> Ran
     requires { ⌜ Given (now mem) (flags cpu % 16 ≡ 0) ⌝ }

@@ -2,8 +2,8 @@
 use mathlib.Core.Path.{_≡_, sym, _∙_}
 use denote.Ref.{now}
 use Rattle.sm83.proofs.OneAnswer.{AnyInput}
-use Rattle.verdict.specs.declared.Verdict.{Verdict}
-use Rattle.screen.proofs.screen.screen.Reads.{Pre, Post}
+use Rattle.routine.specs.declared.Verdict.{Verdict}
+use Rattle.screen.proofs.screen.Reads.{Pre, Post}
 
 pub takes-any-input : AnyInput Pre
 takes-any-input κs input = tt

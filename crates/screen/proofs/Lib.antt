@@ -1,4 +1,4 @@
--- Laws over plain variables that the functions' proofs cite.
-pub mod Verdicts
-pub mod Whole
+-- TODO: laws.
 pub mod Determined
+pub mod Whole
+pub mod Verdicts

@@ -7,9 +7,9 @@ use lib.ListN.{length, take, getD}
 use lib.Seq.{take-all}
 use types.Run.{OneOf, miss}
 use denote.Enum.Declared.{tagOf}
-use Rattle.verdict.specs.declared.Verdict.{Verdict}
-use Rattle.verdict.specs.declared.Verdict.the-variants.{Passes, Refused, RefusedAt}
-use Rattle.verdict.proofs.Verdict.{the-type}
+use Rattle.routine.specs.declared.Verdict.{Verdict}
+use Rattle.routine.specs.declared.Verdict.the-variants.{Passes, Refused, RefusedAt}
+use Rattle.routine.proofs.Verdict.{the-type}
 use Rattle.routine.specs.declared.Test.{Test}
 use Rattle.routine.specs.Screen.{isMarked, scanFor, firstOf}
 

@@ -1,3 +1,3 @@
--- That the contracts leave one answer.
-pub mod OneAnswer
+-- TODO: laws.
 pub mod Determined
+pub mod OneAnswer

@@ -1,6 +1,7 @@
 -- F: four flags in a byte.
 use mathlib.Core.Bool.{Bool}
-use Prim.Native.Nat.{ℕ, _+_, _*_, _/_, _%_}
+use mathlib.Core.Path.{_≡_}
+use Prim.Native.Nat.{ℕ, _+_, _*_, _/_, _%_, _≤_}
 use lib.Dec.{eqb}
 use Rattle.sm83.specs.Basics.{bit}
 
@@ -19,3 +20,13 @@ flagH f = eqb (f / 32 % 2) 1
 
 abbrev pub flagC : ℕ → Bool
 flagC f = eqb (f / 16 % 2) 1
+
+-- a truth value that weighs w, and is no more than that
+pub record Weighs (on : Bool) (w r : ℕ) : Type 0 where
+  pub is : r ≡ bit on * w
+  pub small : r ≤ w
+
+-- a truth value as 0 or 1
+pub record IsBit (on : Bool) (r : ℕ) : Type 0 where
+  pub is : r ≡ bit on
+  pub small : r ≤ 1

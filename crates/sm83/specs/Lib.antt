@@ -1,5 +1,5 @@
--- The state and its names, in reading order.
+-- TODO: what it states.
 pub mod Basics
-pub mod Flags
 pub mod State
+pub mod Flags
 pub mod PowerOn

@@ -1,5 +1,6 @@
 // The processor's state, with the two flags that the host sets and clears, and the four states at power-on.
 ghost use mathlib.Core.Path.{_≡_};
+ghost use Rattle.sm83.specs.State.{onRegisters, setHalt};
 ghost use Rattle.sm83.specs.PowerOn.{cpu-zero, cpu-dmg, cpu-cgb, cpu-cgb-dmg, awake-with};
 use crate::Cpu;
 use crate::CpuRegisters;
@@ -47,5 +48,52 @@ impl Cpu {
             hdma: false,
             dmg: dmg,
         }
+    }
+}
+
+// The state with other registers. Each field stands by itself, so that the compiler keeps each register by itself, too: a
+// state that is copied whole goes through memory, stored as bytes and read back as words (docs/SPEED.md).
+pub fn with_registers(cpu: Cpu, registers: CpuRegisters) -> Cpu
+    ensures { λ r. ⌜ r ≡ onRegisters (λ _. registers) cpu ⌝ }
+{
+    let sp = registers.sp;
+    let pc = registers.pc;
+    let halt = cpu.halt;
+    let regs = CpuRegisters {
+        a: registers.a,
+        b: registers.b,
+        c: registers.c,
+        sp: sp,
+        f: registers.f,
+        d: registers.d,
+        e: registers.e,
+        h: registers.h,
+        l: registers.l,
+        pc: pc,
+    };
+    Cpu {
+        registers: regs,
+        ime: cpu.ime,
+        latch: cpu.latch,
+        halt: halt,
+        stopped: cpu.stopped,
+        hdma: cpu.hdma,
+        dmg: cpu.dmg,
+    }
+}
+
+// The state in another halt mode.
+pub fn with_halt(cpu: Cpu, halt: HaltMode) -> Cpu
+    ensures { λ r. ⌜ r ≡ setHalt halt cpu ⌝ }
+{
+    let regs = cpu.registers;
+    Cpu {
+        registers: regs,
+        ime: cpu.ime,
+        latch: cpu.latch,
+        halt: halt,
+        stopped: cpu.stopped,
+        hdma: cpu.hdma,
+        dmg: cpu.dmg,
     }
 }

@@ -1,2 +1,8 @@
--- What the contracts of `text` cite.
+-- TODO: what it states.
 pub mod Page
+pub mod Same
+pub mod Lines
+pub mod Number
+pub mod Hex
+pub mod Digits
+pub mod Form

@@ -1,2 +1,8 @@
-// Text on lent slices: bytes written one after the other. Numbers: the crate `digits`.
+// Text on lent slices: bytes and numbers written one after the other, forms filled in; numbers read; lines of a text found; bytes compared.
+pub mod digits;
+pub mod form;
+pub mod hex;
+pub mod lines;
+pub mod number;
 pub mod page;
+pub mod same;

@@ -2,7 +2,7 @@
 use borrow.Author.Needs.{needs}
 use borrow.Author.Tests.{eqb-true}
 use mathlib.Core.Path.{_∙_}
-use Rattle.memory.specs.World.{behind}
+use Rattle.bus.specs.World.{behind}
 use Rattle.run.proofs.Behind.{stands-behind}
 use Rattle.run.proofs.Admitted.{refused-length, refused-low-bits, run-accepted}
 use Rattle.run.proofs.run.Statement.{statement}

@@ -5,7 +5,7 @@ use mathlib.Core.List.{List}
 use Prim.Native.Nat.{ℕ}
 use Rattle.definition.specs.Run.{RunAnswer}
 use Rattle.run.specs.Answers.{outcomeOf}
-use Rattle.memory.specs.World.{behind}
+use Rattle.bus.specs.World.{behind}
 use Rattle.run.proofs.Admitted.{once}
 use Rattle.run.proofs.step.Statement.{statement}
 use Rattle.run.proofs.step.Tie as tie

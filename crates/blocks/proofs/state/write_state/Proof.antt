@@ -4,8 +4,8 @@ use mathlib.Core.Path.{sym}
 use native.Mathlib.Omega.{arith}
 use lib.ListN.{length-set}
 use Rattle.blocks.specs.StateBlock.{stateFields}
-use Rattle.fields.proofs.Stores.{filling}
-use Rattle.fields.proofs.Filled.{left-alone}
+use Rattle.blocks.proofs.bytes.Stores.{filling}
+use Rattle.blocks.proofs.bytes.Filled.{left-alone}
 use Rattle.blocks.proofs.state.write_state.Statement.{statement}
 use Rattle.blocks.proofs.state.write_state.Tie as tie
 

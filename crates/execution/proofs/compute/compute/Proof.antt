@@ -1,8 +1,8 @@
 -- Shows each opcode up to OR: what its own part of the match answers; the rest is left to the next part.
 use borrow.Author.Needs.{needs}
 use Rattle.opcodes.specs.Instruction.{ADC, ADD, AND, OR, SBC, SUB, XOR}
-use Rattle.execution.proofs.Parts.{second}
-use Rattle.execution.proofs.Computing.{adds-hl, adds-sp, breaks, by-alu, compares, copies, decrements, decs, does-nothing, increments, incs, loads-hl, loads-sp, pops, pushes, stops}
+use Rattle.execution.proofs.compute.Parts.{second}
+use Rattle.execution.proofs.compute.Computing.{adds-hl, adds-sp, breaks, by-alu, compares, copies, decrements, decs, does-nothing, increments, incs, loads-hl, loads-sp, pops, pushes, stops}
 use Rattle.execution.proofs.compute.compute.Statement.{statement}
 use Rattle.execution.proofs.compute.compute.Tie as tie
 

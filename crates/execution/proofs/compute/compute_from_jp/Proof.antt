@@ -1,8 +1,8 @@
 -- Shows each opcode from JP to RRA: what its own part of the match answers; the rest is left to the next part.
 use borrow.Author.Needs.{needs}
 use Rattle.opcodes.specs.Instruction.{CCF, CPL, DAA, RLA, RLCA, RRA, RRCA, SCF}
-use Rattle.execution.proofs.Parts.{third}
-use Rattle.execution.proofs.Computing.{by-acc, calls, disables, enables, jumps, jumps-by, jumps-to-hl, restarts, returns, returns-enabling}
+use Rattle.execution.proofs.compute.Parts.{third}
+use Rattle.execution.proofs.compute.Computing.{by-acc, calls, disables, enables, jumps, jumps-by, jumps-to-hl, restarts, returns, returns-enabling}
 use Rattle.execution.proofs.compute.compute_from_jp.Statement.{statement}
 use Rattle.execution.proofs.compute.compute_from_jp.Tie as tie
 

@@ -1,8 +1,8 @@
 -- Shows each opcode that follows a prefix, the illegal one and HALT: what its own part of the match answers; no other comes here.
 use borrow.Author.Needs.{needs}
 use Rattle.opcodes.specs.Instruction.{RL, RLC, RR, RRC, SLA, SRA, SRL, SWAP}
-use Rattle.execution.proofs.Parts.{nothing}
-use Rattle.execution.proofs.Computing.{by-shift, clears, halts, raises, refuses, tests}
+use Rattle.execution.proofs.compute.Parts.{nothing}
+use Rattle.execution.proofs.compute.Computing.{by-shift, clears, halts, raises, refuses, tests}
 use Rattle.execution.proofs.compute.compute_from_rlc.Statement.{statement}
 use Rattle.execution.proofs.compute.compute_from_rlc.Tie as tie
 

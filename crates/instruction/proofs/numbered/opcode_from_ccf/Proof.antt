@@ -3,7 +3,7 @@ use mathlib.Core.Path.{sym}
 use lib.ListN.{List·getD-eq-default}
 use Rattle.instruction.specs.Entry.{opcodesFromCcf}
 use Rattle.instruction.specs.declared.Opcode.the-variants as op
-use Rattle.operands.proofs.Matched.{past}
+use Rattle.instruction.proofs.Matched.{past}
 use Rattle.instruction.proofs.numbered.opcode_from_ccf.Statement.{statement}
 use Rattle.instruction.proofs.numbered.opcode_from_ccf.Tie as tie
 

@@ -4,7 +4,7 @@ use mathlib.Core.Path.{sym}
 use lib.ListN.{List·getD-eq-default}
 use Rattle.instruction.specs.Entry.{opcodesUpToEi}
 use Rattle.instruction.specs.declared.Opcode.the-variants as op
-use Rattle.operands.proofs.Matched.{past}
+use Rattle.instruction.proofs.Matched.{past}
 use Rattle.instruction.proofs.numbered.opcode_up_to_ei.Statement.{statement}
 use Rattle.instruction.proofs.numbered.opcode_up_to_ei.Tie as tie
 

@@ -3,7 +3,7 @@ use borrow.Author.Needs.{needs}
 use mathlib.Core.Path.{refl, sym, _∙_}
 use Prim.Native.Nat.{_-_}
 use native.Mathlib.Omega.{arith}
-use Rattle.memory.specs.World.{behind}
+use Rattle.bus.specs.World.{behind}
 use Rattle.run.proofs.Behind.{stands-behind}
 use Rattle.run.proofs.Repeating.{Going, starts, ends, stops-early, goes-on}
 use Rattle.run.proofs.repeat.repeat.Statement.{statement}

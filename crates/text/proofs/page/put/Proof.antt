@@ -4,7 +4,7 @@ use Prim.Native.Nat.{_≤_, _-_}
 use native.Mathlib.Omega.{arith}
 use lib.ListN.{length, take}
 use Rattle.text.specs.Page.{page, Wrote}
-use Rattle.text.proofs.Written.{nothing, one-more, all-of-it}
+use Rattle.text.proofs.page.Written.{nothing, one-more, all-of-it}
 use Rattle.text.proofs.page.put.Statement.{statement}
 use Rattle.text.proofs.page.put.Tie as tie
 

@@ -1,7 +1,7 @@
 -- A byte finds room or does not.
 use borrow.Author.Needs.{needs}
 use native.Mathlib.Omega.{arith}
-use Rattle.text.proofs.Written.{with-room, without-room}
+use Rattle.text.proofs.page.Written.{with-room, without-room}
 use Rattle.text.proofs.page.put_byte.Statement.{statement}
 use Rattle.text.proofs.page.put_byte.Tie as tie
 

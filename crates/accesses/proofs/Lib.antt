@@ -1,3 +1,0 @@
--- Laws over plain variables, each applied to what the callees of one function ensure.
-pub mod Leading
-pub mod Parts

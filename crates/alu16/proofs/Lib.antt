@@ -1,2 +1,0 @@
--- What is proved of sums of words besides the contracts.
-pub mod Signed

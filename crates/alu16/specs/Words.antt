@@ -1,6 +1,0 @@
--- A word and its flags as the value that the code returns.
-use Prim.Native.Nat.{ℕ}
-use Rattle.alu16.specs.declared.ComputedWord.{ComputedWord}
-
-abbrev pub wordWith : ℕ → ℕ → ComputedWord
-wordWith w f = record { value = w; flags = f }

@@ -1,3 +1,0 @@
--- What is proved of the answer blocks.
-pub mod Answered
-pub mod Answers

@@ -1,2 +1,0 @@
--- The layouts of the answer blocks, by their offsets.
-pub mod AnswerBlock

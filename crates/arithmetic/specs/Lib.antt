@@ -1,0 +1,3 @@
+-- TODO: what it states.
+pub mod Computed
+pub mod Words

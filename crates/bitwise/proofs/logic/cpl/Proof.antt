@@ -1,7 +1,0 @@
--- Shows CPL: `flagged`'s answer, by search.
-use borrow.Author.Needs.{needs}
-use Rattle.bitwise.proofs.logic.cpl.Statement.{statement}
-use Rattle.bitwise.proofs.logic.cpl.Tie as tie
-
-pub cpl-spec : {M : Type 1} → statement M
-cpl-spec = tie.close (tie.spec (λ c. search needs) (λ c κs. search needs) (λ c. search needs))

@@ -1,0 +1,3 @@
+-- TODO: laws.
+pub mod Answered
+pub mod Answers

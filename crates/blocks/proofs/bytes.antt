@@ -1,0 +1,3 @@
+-- TODO: laws.
+pub mod Stores
+pub mod Filled

@@ -1,0 +1,7 @@
+-- TODO: laws.
+pub mod Following
+pub mod Accesses
+pub mod Taking
+pub mod Bytes
+pub mod Parts
+pub mod Leading

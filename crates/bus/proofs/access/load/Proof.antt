@@ -1,0 +1,11 @@
+-- Shows the byte at an address: memory's answer, by one law.
+use borrow.Author.Needs.{needs}
+use Rattle.bus.proofs.Parts.{byte-at}
+use Rattle.bus.proofs.access.load.Statement.{statement}
+use Rattle.bus.proofs.access.load.Tie as tie
+
+returns : tie.Need-returns
+returns c = record { there = byte-at _ _ _ _ _ _ _ _ (c .before .before .before .before .read .ensures); whole = c .before .before .before .before .read .ensures .whole }
+
+pub load-spec : {M : Type 1} → statement M
+load-spec = tie.close (tie.spec (λ c κs. search needs) (λ c. search needs) (λ c. search needs) returns)

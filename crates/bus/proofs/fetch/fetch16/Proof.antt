@@ -1,0 +1,13 @@
+-- Shows two bytes at PC: one after the other, by one law.
+use borrow.Author.Needs.{needs}
+use Rattle.definition.specs.Execution.{imm8}
+use Rattle.bus.proofs.Parts.{two-bytes}
+use Rattle.bus.proofs.fetch.fetch16.Statement.{statement}
+use Rattle.bus.proofs.fetch.fetch16.Tie as tie
+
+returns : tie.Need-returns
+unfolding imm8
+returns c = record { there = two-bytes _ _ _ _ _ _ _ _ _ _ _ _ (c .before .before .before .before .before .before .before .before .before .before .before .fetch-next-pc .ensures .there) (c .before .before .before .before .before .fetch-next-pc2 .ensures .there) (c .pair .ensures); whole = c .before .before .before .before .before .fetch-next-pc2 .ensures .whole }
+
+pub fetch16-spec : {M : Type 1} → statement M
+fetch16-spec = tie.close (tie.spec (λ c κs. search needs) (λ c κs. search needs) (λ c κs. search needs) (λ c. search needs) returns)

@@ -1,0 +1,26 @@
+-- Shows that the lowest set bit wins: bit by bit.
+use borrow.Author.Needs.{needs}
+use native.Mathlib.Nat.{div-one}
+use Rattle.bus.proofs.interrupts.lowest.Statement.{statement}
+use Rattle.bus.proofs.interrupts.lowest.Tie as tie
+
+returns : tie.Need-returns
+returns c = simp (div-one, c .if1 .taken)
+
+returns-2 : tie.Need-returns-2
+returns-2 c = simp (div-one, c .if2 .taken, c .before .if1 .left)
+
+returns-3 : tie.Need-returns-3
+returns-3 c = simp (div-one, c .if3 .taken, c .before .if2 .left, c .before .before .if1 .left)
+
+returns-4 : tie.Need-returns-4
+returns-4 c = simp (div-one, c .if4 .taken, c .before .if3 .left, c .before .before .if2 .left, c .before .before .before .if1 .left)
+
+returns-5 : tie.Need-returns-5
+returns-5 c = simp (div-one, c .if5 .taken, c .before .if4 .left, c .before .before .if3 .left, c .before .before .before .if2 .left, c .before .before .before .before .if1 .left)
+
+returns-6 : tie.Need-returns-6
+returns-6 c = simp (div-one, c .if5 .left, c .before .if4 .left, c .before .before .if3 .left, c .before .before .before .if2 .left, c .before .before .before .before .if1 .left)
+
+pub lowest-spec : {M : Type 1} → statement M
+lowest-spec = tie.close (tie.spec returns returns-2 returns-3 returns-4 returns-5 returns-6)

@@ -1,2 +1,0 @@
--- What the functions leave, from what their callees answer.
-pub mod Blocks

@@ -1,2 +1,0 @@
--- What a call leaves of its blocks.
-pub mod Left

@@ -1,2 +1,0 @@
--- What a command line asks of a run.
-pub mod Start

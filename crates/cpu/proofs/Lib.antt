@@ -1,2 +1,0 @@
--- One instruction: its operand, what it does, where its result goes.
-pub mod Executing

@@ -1,2 +1,0 @@
--- What the contracts of this crate are stated with.
-pub mod Widths

@@ -1,0 +1,3 @@
+-- TODO: laws.
+pub mod Parts
+pub mod Computing

@@ -1,2 +1,0 @@
--- What a fetch leaves to be executed.
-pub mod Fetching

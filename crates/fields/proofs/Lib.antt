@@ -1,3 +1,0 @@
--- What a run of stores leaves.
-pub mod Filled
-pub mod Stores

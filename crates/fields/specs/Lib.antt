@@ -1,3 +1,0 @@
--- Bytes at offsets.
-pub mod Bytes
-pub mod Registers

@@ -1,2 +1,0 @@
-// Words, counts and registers at fixed offsets of a lent slice, low byte first.
-pub mod bytes;

@@ -1,2 +1,0 @@
--- What the contracts are stated with.
-pub mod Hex

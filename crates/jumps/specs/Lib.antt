@@ -1,2 +1,0 @@
--- The wait of a return.
-pub mod Waits

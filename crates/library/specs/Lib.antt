@@ -1,0 +1,3 @@
+-- TODO: what it states.
+pub mod Screened
+pub mod Left

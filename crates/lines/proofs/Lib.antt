@@ -1,2 +1,0 @@
--- What is proved of texts of lines.
-pub mod Found

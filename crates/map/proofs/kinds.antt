@@ -1,0 +1,3 @@
+-- TODO: laws.
+pub mod Drawing
+pub mod Passed

@@ -1,0 +1,4 @@
+-- TODO: what it states.
+pub mod Opcode
+pub mod Counts
+pub mod Kinds

@@ -1,2 +1,0 @@
--- What is proved of numbers as a person writes them.
-pub mod ByteRead

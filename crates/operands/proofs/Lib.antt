@@ -1,2 +1,0 @@
--- What a match on a number leaves.
-pub mod Matched

@@ -1,0 +1,3 @@
+-- TODO: laws.
+pub mod Destining
+pub mod Widths

@@ -1,0 +1,14 @@
+-- Shows the byte at HL, and HL moved by one: the callees' answers, by one law.
+use borrow.Author.Needs.{needs}
+use Rattle.sm83.specs.Basics.{next}
+use Rattle.operands.specs.Operands.{readOperand}
+use Rattle.bus.proofs.Parts.{byte-at-hl}
+use Rattle.operands.proofs.sources.read_hl_inc.Statement.{statement}
+use Rattle.operands.proofs.sources.read_hl_inc.Tie as tie
+
+returns : tie.Need-returns
+unfolding readOperand
+returns c = record { there = byte-at-hl _ _ _ _ _ next _ _ _ _ _ (c .before .before .before .before .before .before .before .before .before .reg-hl-read .ensures) (c .before .before .before .before .before .before .before .read .ensures) (c .before .before .before .wrapping-add .ensures) (c .before .before .reg-hl-write .ensures) (c .before .with-registers .ensures); whole = c .before .before .before .before .before .before .before .read .ensures .whole }
+
+pub read-hl-inc-spec : {M : Type 1} → statement M
+read-hl-inc-spec = tie.close (tie.spec (λ c κs. search needs) (λ c κs. search needs) (λ c κs. search needs) (λ c κs. search needs) (λ c κs. search needs) (λ c. search needs) (λ c. search needs) returns)

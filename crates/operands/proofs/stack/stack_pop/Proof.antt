@@ -1,0 +1,11 @@
+-- Shows a word popped, the low byte first: the callees' answers, by one law.
+use borrow.Author.Needs.{needs}
+use Rattle.bus.proofs.Parts.{popped}
+use Rattle.operands.proofs.stack.stack_pop.Statement.{statement}
+use Rattle.operands.proofs.stack.stack_pop.Tie as tie
+
+returns : tie.Need-returns
+returns c = record { there = popped _ _ _ _ _ _ _ _ _ _ _ _ (c .before .before .before .before .before .before .before .before .before .before .before .read .ensures) (c .before .before .before .before .before .before .before .wrapping-add .ensures) (c .before .before .before .before .before .read2 .ensures) (c .before .wrapping-add2 .ensures) (c .pair .ensures); whole = c .before .before .before .before .before .read2 .ensures .whole }
+
+pub stack-pop-spec : {M : Type 1} → statement M
+stack-pop-spec = tie.close (tie.spec (λ c κs. search needs) (λ c κs. search needs) (λ c κs. search needs) (λ c κs. search needs) (λ c κs. search needs) (λ c. search needs) returns)

@@ -1,0 +1,121 @@
+// Where a result goes.
+ghost use mathlib.Core.Path.{_≡_};
+ghost use mathlib.Core.List.{List};
+ghost use Prim.Native.Nat.{ℕ};
+ghost use lib.Dec.{T, eqb};
+ghost use lib.ListN.{length};
+ghost use Rattle.sm83.specs.State.{onRegisters};
+ghost use Rattle.bus.specs.World.{Given};
+ghost use Rattle.bus.specs.Leads.{Leads, Runs};
+ghost use Rattle.operands.specs.Operands.{writeOperand};
+ghost use Rattle.instruction.specs.Operand.{writable};
+ghost use Rattle.operands.specs.Widths.{both, widthOf};
+use crate::places::write_at16;
+use crate::places::write_high;
+use crate::places::write_hl_dec;
+use crate::places::write_hl_inc;
+use crate::places::write_word_at16;
+use bus::Both;
+use bus::Port;
+use bus::access::high;
+use bus::access::store;
+use instruction::OperandType;
+use sm83::Addr;
+use sm83::Cpu;
+use sm83::CpuRegisters;
+use sm83::state::with_registers;
+
+// For an operand that is never written: no call of this is ever reached.
+fn never_written(cpu: Cpu, port: Port) -> Both
+    requires { ⌜ ⊥ ⌝ }
+    ensures { λ r. ⌜ ⊥ ⌝ }
+{
+    Both {
+        cpu: cpu,
+        port: port,
+    }
+}
+
+// The registers are put back into the state.
+fn left(cpu: Cpu, port: Port, regs: CpuRegisters) -> Both
+    ensures { λ r. ⌜ r ≡ both (onRegisters (λ _. regs) cpu) port ⌝ }
+{
+    let s = with_registers(cpu, regs);
+    Both { cpu: s, port: port }
+}
+
+// A register of one byte: the low byte of the value.
+fn write_byte(cpu: Cpu, port: Port, ty: OperandType, value: u16) -> Both
+    requires { ⌜ T (eqb (widthOf ty) 1) ⌝ }
+    ensures { λ r. ⌜ ((m : List ℕ) → Leads (writeOperand ty value) cpu port m tt (r .cpu) (r .port) m) ⌝ }
+{
+    let mut regs = cpu.registers;
+    let low = (value % 256) as u8;
+    match ty {
+        OperandType::RegA => {
+            regs.a = low;
+            left(cpu, port, regs)
+        }
+        OperandType::RegB => {
+            regs.b = low;
+            left(cpu, port, regs)
+        }
+        OperandType::RegC => {
+            regs.c = low;
+            left(cpu, port, regs)
+        }
+        OperandType::RegD => {
+            regs.d = low;
+            left(cpu, port, regs)
+        }
+        OperandType::RegE => {
+            regs.e = low;
+            left(cpu, port, regs)
+        }
+        OperandType::RegH => {
+            regs.h = low;
+            left(cpu, port, regs)
+        }
+        OperandType::RegL => {
+            regs.l = low;
+            left(cpu, port, regs)
+        }
+        _ => never_written(cpu, port),
+    }
+}
+
+pub fn write_operand(cpu: Cpu, port: Port, ty: OperandType, value: u16, mem: &mut [u8]) -> Both
+    requires { ⌜ Given (now mem) (T (writable ty)) ⌝ }
+    ensures { λ r. ⌜ Runs (writeOperand ty value) cpu port (now (mem .entry)) tt (r .cpu) (r .port) (now (mem .exit)) ⌝ }
+{
+    let mut regs = cpu.registers;
+    let low = (value % 256) as u8;
+    match ty {
+        OperandType::AddrHL => store(cpu, port, Addr(regs.reg_hl_read()), low, mem),
+        OperandType::AddrHLDec => write_hl_dec(cpu, port, value, mem),
+        OperandType::AddrHLInc => write_hl_inc(cpu, port, value, mem),
+        OperandType::AddrBC => store(cpu, port, Addr(regs.reg_bc_read()), low, mem),
+        OperandType::AddrDE => store(cpu, port, Addr(regs.reg_de_read()), low, mem),
+        OperandType::RegAF => left(cpu, port, regs.reg_af_write(value)),
+        OperandType::RegBC => left(cpu, port, regs.reg_bc_write(value)),
+        OperandType::RegDE => left(cpu, port, regs.reg_de_write(value)),
+        OperandType::RegHL => left(cpu, port, regs.reg_hl_write(value)),
+        OperandType::RegSP => {
+            let sp = Addr(value);
+            regs.sp = sp;
+            left(cpu, port, regs)
+        }
+        OperandType::Imm8 => never_written(cpu, port),
+        OperandType::Imm8Signed => never_written(cpu, port),
+        OperandType::Imm16 => never_written(cpu, port),
+        OperandType::HighAddr8 => write_high(cpu, port, value, mem),
+        OperandType::HighAddrC => store(cpu, port, high(regs.c), low, mem),
+        OperandType::Addr16 => write_at16(cpu, port, value, mem),
+        OperandType::Addr16Val16 => write_word_at16(cpu, port, value, mem),
+        OperandType::Implied => Both {
+            cpu: cpu,
+            port: port,
+        },
+        _ => write_byte(cpu, port, ty, value),
+    }
+}

@@ -1,0 +1,40 @@
+// Forms, filled in and written.
+ghost use Rattle.io.specs.Counts.{Counts};
+use text::form::fill;
+
+// At most the page's length.
+pub fn within(out: &[u8], n: usize) -> usize
+    ensures { λ r. ⌜ Counts r (now (out .entry)) ⌝ }
+{
+    if n <= out.len() {
+        return n;
+    }
+    out.len()
+}
+
+// The first n bytes of a page.
+pub fn say(fd: i32, out: &[u8], n: usize) {
+    let k = within(out, n);
+    io::write_all(fd, &out[..k]);
+}
+
+pub fn print(fd: i32, form: &[u8], values: &[u64], word: &[u8]) {
+    let mut out = io::large_buffer();
+    let n = fill(&mut out, 0, form, values, word);
+    say(fd, &out, n);
+}
+
+// The same for a line of at most 128 bytes.
+pub fn print_short(fd: i32, form: &[u8], values: &[u64], word: &[u8]) {
+    let mut out = [0u8; 128];
+    let n = fill(&mut out, 0, form, values, word);
+    say(fd, &out, n);
+}
+
+// The system's own words come after it.
+pub fn fail(form: &[u8], word: &[u8]) {
+    let mut out = io::large_buffer();
+    let at = fill(&mut out, 0, form, &[], word);
+    let n = within(&out, at);
+    os::fail(&out[..n]);
+}

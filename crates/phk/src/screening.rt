@@ -1,0 +1,129 @@
+// phk screen: the verdict, the marks and the map.
+use crate::page::within;
+use crate::said;
+use crate::said::Env;
+use crate::sentences::after;
+use commandline::grammar::Part;
+use commandline::line::Line;
+use map::kinds::draw;
+use map::tally::count;
+use routine::Verdict;
+use screen::screen;
+use sm83::Addr;
+
+fn mark(marks: &[u8], i: usize) -> bool {
+    if i < marks.len() {
+        marks[i] == 1
+    } else {
+        false
+    }
+}
+
+fn index_of(a: u16, first: u16) -> usize {
+    std::num::wrapping_sub_u16(a, first) as usize
+}
+
+fn print_start(mem: &[u8], marks: &[u8], first: u16, a: u16) {
+    if mark(marks, index_of(a, first)) {
+        crate::sentences::start(mem, a);
+    }
+}
+
+fn print_starts(mem: &[u8], marks: &[u8], first: u16, length: usize) {
+    let mut left = length;
+    let mut a = first;
+    while 0 < left {
+        print_start(mem, marks, first, a);
+        a = after(a, 1);
+        left = left - 1;
+    }
+}
+
+fn row_end(more: bool) {
+    if more {
+        io::write_all(1, b"\n");
+    }
+}
+
+// A cell for each byte, 32 to a row.
+fn print_cells(kinds: &[u8], first: u16, colour: bool) {
+    let mut a = first;
+    let mut column: u8 = 0;
+    let mut i = 0;
+    while i < kinds.len() {
+        if column == 0 {
+            crate::sentences::row(a);
+        }
+        crate::sentences::cell(kinds[i], colour);
+        a = after(a, 1);
+        i += 1;
+        column = (column % 32 + 1) % 32;
+        row_end(column == 0);
+    }
+    row_end(column != 0);
+}
+
+fn print_drawn(mem: &[u8], first: u16, verdict: Verdict, kinds: &mut [u8], colour: bool) {
+    draw(mem, Addr(first), verdict, kinds);
+    print_cells(kinds, first, colour);
+    crate::sentences::legend();
+}
+
+fn print_map(mem: &[u8], first: u16, length: usize, verdict: Verdict, colour: bool) {
+    let mut kinds = io::large_buffer();
+    let n = within(&kinds, length);
+    print_drawn(mem, first, verdict, &mut kinds[..n], colour);
+}
+
+fn print_passes(line: Line, mem: &[u8], marks: &[u8], first: u16, last: u16, length: usize) {
+    let c = count(mem, Addr(first), marks);
+    crate::sentences::passes(first, last, c.instructions, c.jumps);
+    if line.has(Part::Marks) {
+        print_starts(mem, marks, first, length);
+    }
+}
+
+fn judged(
+    line: Line,
+    mem: &[u8],
+    marks: &mut [u8],
+    first: u16,
+    last: u16,
+    length: usize,
+    colour: bool,
+) -> u8 {
+    let verdict = screen(mem, Addr(first), Addr(last), marks);
+    let map = line.has(Part::Map);
+    let number = verdict.number();
+    match verdict {
+        Verdict::Passes => {
+            print_passes(line, mem, marks, first, last, length);
+            if map {
+                print_map(mem, first, length, verdict, colour);
+            }
+            said::DONE
+        }
+        Verdict::Refused(_) => {
+            crate::sentences::refused(number);
+            said::REFUSED
+        }
+        Verdict::RefusedAt(_, at) => {
+            crate::sentences::refused_at(mem, number, at.0);
+            if map {
+                print_map(mem, first, length, verdict, colour);
+            }
+            said::REFUSED
+        }
+    }
+}
+
+// The screen decides which windows it takes: it is lent a mark for each byte of any window.
+pub fn screening(line: Line, mem: &[u8], env: Env) -> u8 {
+    let first = line.address(Part::First, 0);
+    let last = line.address(Part::Last, 0);
+    let span = std::num::wrapping_sub_u16(last, first);
+    let length = (span as usize) + 1;
+    let mut marks = io::large_buffer();
+    let n = within(&marks, length);
+    judged(line, mem, &mut marks[..n], first, last, length, env.colour)
+}

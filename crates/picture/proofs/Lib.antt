@@ -1,3 +1,0 @@
--- Laws over plain variables that the functions' proofs cite.
-pub mod Drawing
-pub mod Passed

@@ -1,2 +1,0 @@
--- What the contract of the picture cites.
-pub mod Kinds

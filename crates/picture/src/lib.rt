@@ -1,2 +1,0 @@
-// What is drawn of a window: the kind of each of its bytes.
-pub mod kinds;

@@ -1,2 +1,0 @@
--- What an answer leads to.
-pub mod Ending

@@ -1,7 +1,0 @@
--- Shows DI, by search.
-use borrow.Author.Needs.{needs}
-use Rattle.results.proofs.di.Statement.{statement}
-use Rattle.results.proofs.di.Tie as tie
-
-pub di-spec : {M : Type 1} → statement M
-di-spec = tie.close (tie.spec (λ c κs. search needs) (λ c. search needs))

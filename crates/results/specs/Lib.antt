@@ -1,2 +1,0 @@
--- What an operation answers.
-pub mod Worked

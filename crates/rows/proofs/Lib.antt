@@ -1,0 +1,3 @@
+-- TODO: laws.
+pub mod AllRows
+pub mod Lengths

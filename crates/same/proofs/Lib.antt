@@ -1,2 +1,0 @@
--- What is proved of sameness.
-pub mod SameBytes

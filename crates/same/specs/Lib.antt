@@ -1,2 +1,0 @@
--- What the contract is stated with.
-pub mod Bytes

@@ -1,0 +1,4 @@
+-- TODO: laws.
+pub mod Scanning
+pub mod JumpArms
+pub mod Targets

@@ -1,2 +1,0 @@
--- What the function leaves, from what its callees answer.
-pub mod Screenings

@@ -1,2 +1,0 @@
--- What the screen leaves of its marks and its block.
-pub mod Screened

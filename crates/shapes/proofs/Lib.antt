@@ -1,2 +1,0 @@
--- What is right of a match on a number.
-pub mod Arms

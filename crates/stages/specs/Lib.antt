@@ -1,2 +1,0 @@
--- The stages of a step, as contracts state them.
-pub mod Stages

@@ -1,0 +1,3 @@
+-- TODO: laws.
+pub mod Stepping
+pub mod Fetching

@@ -1,0 +1,18 @@
+-- Shows point 3, by the test whether there is a halt.
+use borrow.Author.Needs.{needs}
+use mathlib.Core.Path.{sym, _∙_}
+use Rattle.step.proofs.Stepping.{not-asleep}
+use Rattle.step.proofs.waking.wake.Statement.{statement}
+use Rattle.step.proofs.waking.wake.Tie as tie
+
+rest-requires : tie.Need-rest-requires
+rest-requires c κs = record { whole = c .before .before .before .before .pre; holds = sym (c .before .before .is-asleep .ensures) ∙ c .before .if1 .taken }
+
+returns : tie.Need-returns
+returns c = c .before .before .rest .ensures
+
+returns-2 : tie.Need-returns-2
+returns-2 c = record { there = not-asleep _ _ _ _ (c .before .is-asleep .ensures) (c .if1 .left); whole = c .before .before .before .pre }
+
+pub wake-spec : {M : Type 1} → statement M
+wake-spec = tie.close (tie.spec (λ c κs. search needs) rest-requires (λ c. search needs) returns returns-2)

@@ -1,0 +1,2 @@
+-- TODO: what it states.
+pub mod Stages

@@ -1,2 +1,0 @@
--- The law that the count cites.
-pub mod Counting

@@ -1,2 +1,0 @@
--- What the counts are.
-pub mod Counts

@@ -1,0 +1,13 @@
+-- Each way through the test, by what it found.
+use native.Mathlib.Omega.{arith}
+use Rattle.text.proofs.form.takes.Statement.{statement}
+use Rattle.text.proofs.form.takes.Tie as tie
+
+returns : tie.Need-returns
+returns c = (simp (c .if1 .taken), omega arith)
+
+returns-2 : tie.Need-returns-2
+returns-2 c = (simp (c .if1 .left), omega arith)
+
+pub takes-spec : {M : Type 1} → statement M
+takes-spec = tie.close (tie.spec returns returns-2)

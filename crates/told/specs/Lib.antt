@@ -1,2 +1,0 @@
--- What a record says of what a step or a run leaves.
-pub mod Told

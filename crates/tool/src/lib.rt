@@ -1,2 +1,0 @@
-// `phk screen`: a window screened, counted and drawn.
-pub mod screening;

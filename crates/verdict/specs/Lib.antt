@@ -1,2 +1,0 @@
--- The document's numbers.
-pub mod Numbers

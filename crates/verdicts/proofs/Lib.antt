@@ -1,2 +1,0 @@
--- What is proved of the screen's answer block.
-pub mod Says

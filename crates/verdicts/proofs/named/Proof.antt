@@ -1,7 +1,0 @@
--- Shows the address that a verdict names, by search.
-use borrow.Author.Needs.{needs}
-use Rattle.verdicts.proofs.named.Statement.{statement}
-use Rattle.verdicts.proofs.named.Tie as tie
-
-pub named-spec : {M : Type 1} → statement M
-named-spec = tie.close (tie.spec (λ c. search needs) (λ c. search needs) (λ c. search needs) (λ c. search needs) (λ c. search needs) (λ c. search needs))

@@ -1,2 +1,0 @@
--- The layout of the screen's answer block.
-pub mod ScreenBlock

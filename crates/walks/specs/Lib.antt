@@ -1,2 +1,0 @@
--- What the contracts of the passes cite.
-pub mod Parts

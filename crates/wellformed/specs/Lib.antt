@@ -1,2 +1,0 @@
--- When the flags of a state block are well formed.
-pub mod Flags

@@ -1,2 +1,0 @@
--- The laws behind the comparison of one window.
-pub mod Windowed

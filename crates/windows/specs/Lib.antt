@@ -1,2 +1,0 @@
--- What a record of a window says, and when the screen agrees with it.
-pub mod Window

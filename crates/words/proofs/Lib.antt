@@ -1,2 +1,0 @@
--- What is proved of forms.
-pub mod Filled

@@ -1,2 +1,0 @@
--- What the tool says.
-pub mod Form

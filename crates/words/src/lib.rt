@@ -1,2 +1,0 @@
-// What the tool says of numbers and words: forms that are filled in.
-pub mod form;

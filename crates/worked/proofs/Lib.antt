@@ -1,3 +1,0 @@
--- The rows, computed.
-pub mod AllRows
-pub mod Lengths
