@@ -6,15 +6,17 @@ ghost use Rattle.opcodes.specs.Arithmetic.{isZero, daa};
 ghost use Rattle.arithmetic.specs.Computed.{computed, byteWith};
 use crate::Computed;
 use crate::flagged;
-use sm83::CpuRegisters;
+use sm83::flags::flag_c;
+use sm83::flags::flag_h;
+use sm83::flags::flag_n;
 use sm83::flags::weight;
 
 pub fn daa(a: u8, f: u8) -> Computed
     ensures { λ r. ⌜ r ≡ computed (daa a f) ⌝ }
 {
-    let n = f / CpuRegisters::N % 2 == 1;
-    let h = f / CpuRegisters::H % 2 == 1;
-    let c = f / CpuRegisters::C % 2 == 1;
+    let n = flag_n(f);
+    let h = flag_h(f);
+    let c = flag_c(f);
     let low = h | (!n & (a % 16 >= 0x0a));
     let high = c | (!n & (a >= 0x9a));
     let correction = (weight(low, 0x06) as u16) + (weight(high, 0x60) as u16);

@@ -5,21 +5,21 @@ ghost use Rattle.opcodes.specs.Arithmetic.{carry, sum, difference, increment, d
 ghost use Rattle.arithmetic.specs.Computed.{computed};
 use crate::Computed;
 use crate::flagged;
-use sm83::CpuRegisters;
 use sm83::flags::bit_of;
+use sm83::flags::flag_c;
 
 pub fn inc(x: u8, f: u8) -> Computed
     ensures { λ r. ⌜ r ≡ computed (increment x f) ⌝ }
 {
     let v = (((x as u16) + 1) % 256) as u8;
-    flagged(v, v == 0, false, x % 16 == 15, f / CpuRegisters::C % 2 == 1)
+    flagged(v, v == 0, false, x % 16 == 15, flag_c(f))
 }
 
 pub fn dec(x: u8, f: u8) -> Computed
     ensures { λ r. ⌜ r ≡ computed (decrement x f) ⌝ }
 {
     let v = (((x as u16) + 255) % 256) as u8;
-    flagged(v, v == 0, true, x % 16 == 0, f / CpuRegisters::C % 2 == 1)
+    flagged(v, v == 0, true, x % 16 == 0, flag_c(f))
 }
 
 fn sum(a: u8, x: u8, carry: bool) -> Computed
@@ -49,7 +49,7 @@ pub fn add(a: u8, x: u8) -> Computed
 pub fn adc(a: u8, x: u8, f: u8) -> Computed
     ensures { λ r. ⌜ r ≡ computed (sum a x (carry f)) ⌝ }
 {
-    sum(a, x, f / CpuRegisters::C % 2 == 1)
+    sum(a, x, flag_c(f))
 }
 
 // The flags of a difference that is not kept.
@@ -68,5 +68,5 @@ pub fn sub(a: u8, x: u8) -> Computed
 pub fn sbc(a: u8, x: u8, f: u8) -> Computed
     ensures { λ r. ⌜ r ≡ computed (difference a x (carry f)) ⌝ }
 {
-    difference(a, x, f / CpuRegisters::C % 2 == 1)
+    difference(a, x, flag_c(f))
 }

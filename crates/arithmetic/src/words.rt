@@ -4,8 +4,8 @@ ghost use Prim.Native.Nat.{_+_, _%_};
 ghost use Rattle.sm83.specs.Basics.{signed, lowByte};
 ghost use Rattle.opcodes.specs.Arithmetic.{wordSumFlags, offsetFlags};
 ghost use Rattle.arithmetic.specs.Words.{wordWith};
-use sm83::CpuRegisters;
 use sm83::flags::flag_byte;
+use sm83::flags::flag_z;
 
 pub struct ComputedWord {
     pub value: u16,
@@ -31,7 +31,7 @@ pub fn add16(dest: u16, src: u16, f: u8) -> ComputedWord
     let c = (dest as u32) + (src as u32) >= 65536;
     ComputedWord {
         value: std::num::wrapping_add_u16(dest, src),
-        flags: flag_byte(f / CpuRegisters::Z % 2 == 1, false, h, c),
+        flags: flag_byte(flag_z(f), false, h, c),
     }
 }
 

@@ -7,7 +7,8 @@ ghost use Rattle.opcodes.specs.Arithmetic.{logical, accOp};
 ghost use Rattle.arithmetic.specs.Computed.{computed};
 use arithmetic::Computed;
 use arithmetic::flagged;
-use sm83::CpuRegisters;
+use sm83::flags::flag_c;
+use sm83::flags::flag_z;
 
 pub fn and(a: u8, x: u8) -> Computed
     ensures { λ r. ⌜ r ≡ computed (logical (bitAnd a x) true) ⌝ }
@@ -33,20 +34,20 @@ pub fn or(a: u8, x: u8) -> Computed
 pub fn ccf(a: u8, f: u8) -> Computed
     ensures { λ r. ⌜ r ≡ computed (accOp CCF a f) ⌝ }
 {
-    let c = f / CpuRegisters::C % 2 == 1;
-    flagged(a, f / CpuRegisters::Z % 2 == 1, false, false, !c)
+    let c = flag_c(f);
+    flagged(a, flag_z(f), false, false, !c)
 }
 
 pub fn scf(a: u8, f: u8) -> Computed
     ensures { λ r. ⌜ r ≡ computed (accOp SCF a f) ⌝ }
 {
-    flagged(a, f / CpuRegisters::Z % 2 == 1, false, false, true)
+    flagged(a, flag_z(f), false, false, true)
 }
 
 pub fn cpl(a: u8, f: u8) -> Computed
     ensures { λ r. ⌜ r ≡ computed (accOp CPL a f) ⌝ }
 {
-    let z = f / CpuRegisters::Z % 2 == 1;
-    let c = f / CpuRegisters::C % 2 == 1;
+    let z = flag_z(f);
+    let c = flag_c(f);
     flagged(255 - a, z, true, true, c)
 }

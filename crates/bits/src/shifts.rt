@@ -5,8 +5,8 @@ ghost use Rattle.opcodes.specs.Arithmetic.{shifted, shiftOp, withoutZ, accOp};
 ghost use Rattle.arithmetic.specs.Computed.{computed, result};
 use arithmetic::Computed;
 use arithmetic::flagged;
-use sm83::CpuRegisters;
 use sm83::flags::bit_of;
+use sm83::flags::flag_c;
 
 // What a rotation or shift makes, and the bit that left.
 fn with_carry_out(v: u8, out: u8) -> Computed
@@ -32,13 +32,13 @@ pub fn rl(x: u8, f: u8) -> Computed
     ensures { λ r. ⌜ r ≡ computed (shiftOp RL x f) ⌝ }
 {
     let left = ((x as u16) * 2 % 256) as u8;
-    with_carry_out(left + bit_of(f / CpuRegisters::C % 2 == 1), x / 128)
+    with_carry_out(left + bit_of(flag_c(f)), x / 128)
 }
 
 pub fn rr(x: u8, f: u8) -> Computed
     ensures { λ r. ⌜ r ≡ computed (shiftOp RR x f) ⌝ }
 {
-    with_carry_out(x / 2 + bit_of(f / CpuRegisters::C % 2 == 1) * 128, x % 2)
+    with_carry_out(x / 2 + bit_of(flag_c(f)) * 128, x % 2)
 }
 
 pub fn sla(x: u8) -> Computed
@@ -69,7 +69,7 @@ pub fn srl(x: u8) -> Computed
 fn without_z(r: Computed) -> Computed
     ensures { λ q. ⌜ q ≡ computed (withoutZ (result r)) ⌝ }
 {
-    let c = r.flags / CpuRegisters::C % 2 == 1;
+    let c = flag_c(r.flags);
     flagged(r.value, false, false, false, c)
 }
 

@@ -3,13 +3,14 @@ ghost use mathlib.Core.Path.{_≡_};
 ghost use Rattle.instruction.specs.Holding.{checkCond, isUnconditional};
 ghost use Rattle.instruction.specs.Numbered.{conditionAt};
 use crate::Condition;
-use sm83::CpuRegisters;
+use sm83::flags::flag_c;
+use sm83::flags::flag_z;
 
 pub fn check_cond(cond: Condition, f: u8) -> bool
     ensures { λ r. ⌜ r ≡ checkCond cond f ⌝ }
 {
-    let c = f / CpuRegisters::C % 2 == 1;
-    let z = f / CpuRegisters::Z % 2 == 1;
+    let c = flag_c(f);
+    let z = flag_z(f);
     match cond {
         Condition::NC => !c,
         Condition::C => c,

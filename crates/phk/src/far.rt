@@ -41,7 +41,7 @@ pub fn started(line: Line) -> Cpu
     let stack = Addr(line.address(Part::Sp, sp.0));
     r.pc = start;
     r.sp = stack;
-    Cpu::with_registers(r, c.dmg)
+    Cpu::awake_with(r, c.dmg)
 }
 
 // A run that has come so far goes no further.

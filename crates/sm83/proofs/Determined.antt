@@ -1,4 +1,4 @@
--- The contracts of the constructors, pairs, flags, addresses and counts leave one answer to every input.
+-- The contracts of the constructors, pairs, flags and addresses leave one answer to every input.
 use mathlib.Core.Path.{ap, sym, _∙_}
 use Prim.Native.Nat.{ℕ}
 use Rattle.sm83.proofs.OneAnswer.{OneAnswer}
@@ -6,7 +6,7 @@ use Rattle.sm83.proofs.Cpu.new.Reads as Cpu-new
 use Rattle.sm83.proofs.Cpu.dmg.Reads as Cpu-dmg
 use Rattle.sm83.proofs.Cpu.cgb.Reads as Cpu-cgb
 use Rattle.sm83.proofs.Cpu.cgb_dmg.Reads as Cpu-cgb-dmg
-use Rattle.sm83.proofs.Cpu.with_registers.Reads as Cpu-with-registers
+use Rattle.sm83.proofs.Cpu.awake_with.Reads as Cpu-awake-with
 use Rattle.sm83.proofs.CpuRegisters.zero.Reads as CpuRegisters-zero
 use Rattle.sm83.proofs.CpuRegisters.dmg.Reads as CpuRegisters-dmg
 use Rattle.sm83.proofs.CpuRegisters.cgb.Reads as CpuRegisters-cgb
@@ -19,15 +19,13 @@ use Rattle.sm83.proofs.CpuRegisters.reg_af_write.Reads as reg-af-write
 use Rattle.sm83.proofs.CpuRegisters.reg_bc_write.Reads as reg-bc-write
 use Rattle.sm83.proofs.CpuRegisters.reg_de_write.Reads as reg-de-write
 use Rattle.sm83.proofs.CpuRegisters.reg_hl_write.Reads as reg-hl-write
-use Rattle.sm83.proofs.CpuRegisters.flag_z.Reads as flag-z
-use Rattle.sm83.proofs.CpuRegisters.flag_n.Reads as flag-n
-use Rattle.sm83.proofs.CpuRegisters.flag_h.Reads as flag-h
-use Rattle.sm83.proofs.CpuRegisters.flag_c.Reads as flag-c
+use Rattle.sm83.proofs.flags.flag_z.Reads as flag-z
+use Rattle.sm83.proofs.flags.flag_n.Reads as flag-n
+use Rattle.sm83.proofs.flags.flag_h.Reads as flag-h
+use Rattle.sm83.proofs.flags.flag_c.Reads as flag-c
 use Rattle.sm83.proofs.registers.pair.Reads as pair
 use Rattle.sm83.proofs.Addr.wrapping_add.Reads as wrapping-add
 use Rattle.sm83.proofs.Addr.wrapping_sub.Reads as wrapping-sub
-use Rattle.sm83.proofs.MCycles.zero.Reads as MCycles-zero
-use Rattle.sm83.proofs.MCycles.plus.Reads as MCycles-plus
 
 -- The constructors.
 
@@ -43,8 +41,8 @@ Cpu-cgb-determined κs input v w left other p q = p ∙ sym q
 pub Cpu-cgb-dmg-determined : OneAnswer Cpu-cgb-dmg.Post
 Cpu-cgb-dmg-determined κs input v w left other p q = p ∙ sym q
 
-pub Cpu-with-registers-determined : OneAnswer Cpu-with-registers.Post
-Cpu-with-registers-determined κs input v w left other p q = p ∙ sym q
+pub Cpu-awake-with-determined : OneAnswer Cpu-awake-with.Post
+Cpu-awake-with-determined κs input v w left other p q = p ∙ sym q
 
 pub CpuRegisters-zero-determined : OneAnswer CpuRegisters-zero.Post
 CpuRegisters-zero-determined κs input v w left other p q = p ∙ sym q
@@ -106,9 +104,3 @@ wrapping-add-determined κs input v w left other p q = ap (λ (x : ℕ). record 
 
 pub wrapping-sub-determined : OneAnswer wrapping-sub.Post
 wrapping-sub-determined κs input v w left other p q = ap (λ (x : ℕ). record { 0 = x }) (p ∙ sym q)
-
-pub MCycles-zero-determined : OneAnswer MCycles-zero.Post
-MCycles-zero-determined κs input v w left other p q = ap (λ (x : ℕ). record { 0 = x }) (p ∙ sym q)
-
-pub MCycles-plus-determined : OneAnswer MCycles-plus.Post
-MCycles-plus-determined κs input v w left other p q = ap (λ (x : ℕ). record { 0 = x }) (p ∙ sym q)

@@ -1,8 +1,7 @@
-// What addresses and counts of M-cycles do: they wrap.
+// What addresses do: they wrap.
 ghost use mathlib.Core.Path.{_≡_};
 ghost use Prim.Native.Nat.{_+_, _-_, _%_};
 use crate::Addr;
-use crate::MCycles;
 
 impl Addr {
     // SP, PC and HL wrap at 65,536, both ways.
@@ -16,20 +15,5 @@ impl Addr {
         ensures { λ r. ⌜ r .0 ≡ (self .0 + (65536 - by)) % 65536 ⌝ }
     {
         Addr(std::num::wrapping_sub_u16(self.0, by))
-    }
-}
-
-impl MCycles {
-    pub fn zero() -> Self
-        ensures { λ r. ⌜ r .0 ≡ 0 ⌝ }
-    {
-        MCycles(0)
-    }
-
-    // Wraps at 2^32; a run of 65,535 steps stays below 2^20.
-    pub fn plus(self, more: MCycles) -> Self
-        ensures { λ r. ⌜ r .0 ≡ (self .0 + more .0) % 4294967296 ⌝ }
-    {
-        MCycles(std::num::wrapping_add_u32(self.0, more.0))
     }
 }

@@ -1,7 +1,6 @@
 // The registers. The low four bits of F are always 0 in a state that a step accepts: writing AF drops them.
 ghost use mathlib.Core.Path.{_≡_};
 ghost use Rattle.sm83.specs.State.{pairAF, pairBC, pairDE, pairHL, writeAF, writeBC, writeDE, writeHL};
-ghost use Rattle.sm83.specs.Flags.{flagZ, flagN, flagH, flagC};
 ghost use Rattle.sm83.specs.PowerOn.{registers-zero, registers-dmg, registers-cgb, registers-cgb-dmg};
 use crate::Addr;
 
@@ -149,30 +148,6 @@ impl CpuRegisters {
         r.h = (value / 256) as u8;
         r.l = (value % 256) as u8;
         r
-    }
-
-    pub fn flag_z(self) -> bool
-        ensures { λ r. ⌜ r ≡ flagZ (self .f) ⌝ }
-    {
-        self.f / CpuRegisters::Z % 2 == 1
-    }
-
-    pub fn flag_n(self) -> bool
-        ensures { λ r. ⌜ r ≡ flagN (self .f) ⌝ }
-    {
-        self.f / CpuRegisters::N % 2 == 1
-    }
-
-    pub fn flag_h(self) -> bool
-        ensures { λ r. ⌜ r ≡ flagH (self .f) ⌝ }
-    {
-        self.f / CpuRegisters::H % 2 == 1
-    }
-
-    pub fn flag_c(self) -> bool
-        ensures { λ r. ⌜ r ≡ flagC (self .f) ⌝ }
-    {
-        self.f / CpuRegisters::C % 2 == 1
     }
 }
 

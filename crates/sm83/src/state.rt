@@ -11,32 +11,32 @@ impl Cpu {
     pub fn new(dmg: bool) -> Self
         ensures { λ r. ⌜ r ≡ cpu-zero dmg ⌝ }
     {
-        Cpu::with_registers(CpuRegisters::zero(), dmg)
+        Cpu::awake_with(CpuRegisters::zero(), dmg)
     }
 
     // As the boot ROM of a DMG leaves it.
     pub fn dmg() -> Self
         ensures { λ r. ⌜ r ≡ cpu-dmg ⌝ }
     {
-        Cpu::with_registers(CpuRegisters::dmg(), true)
+        Cpu::awake_with(CpuRegisters::dmg(), true)
     }
 
     // As the boot ROM of a CGB leaves it for a CGB cartridge.
     pub fn cgb() -> Self
         ensures { λ r. ⌜ r ≡ cpu-cgb ⌝ }
     {
-        Cpu::with_registers(CpuRegisters::cgb(), false)
+        Cpu::awake_with(CpuRegisters::cgb(), false)
     }
 
     // As the boot ROM of a CGB leaves it for a DMG cartridge.
     pub fn cgb_dmg() -> Self
         ensures { λ r. ⌜ r ≡ cpu-cgb-dmg ⌝ }
     {
-        Cpu::with_registers(CpuRegisters::cgb_dmg(), false)
+        Cpu::awake_with(CpuRegisters::cgb_dmg(), false)
     }
 
     // Awake, with IME, the EI latch and the host's two flags clear.
-    pub fn with_registers(registers: CpuRegisters, dmg: bool) -> Self
+    pub fn awake_with(registers: CpuRegisters, dmg: bool) -> Self
         ensures { λ r. ⌜ r ≡ awake-with registers dmg ⌝ }
     {
         Cpu {
