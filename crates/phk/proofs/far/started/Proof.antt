@@ -15,7 +15,7 @@ returns c =
     let power = c .before .before .before .before .before .before in
     let line = power .before .before .args .line in
     let cpu = power .at-power-on .result in
-    c .with-registers .ensures
+    c .awake-with .ensures
     ∙ ap₂ (λ (a s : ℕ). awake-with (writeSP s (writePC a (cpu .registers))) (cpu .dmg)) (start .ensures) (stack .ensures)
     ∙ ap (startedFrom line) (power .at-power-on .ensures ∙ ap atPowerOn (power .before .power .ensures))
 

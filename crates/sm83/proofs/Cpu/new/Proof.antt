@@ -4,7 +4,7 @@ use Rattle.sm83.proofs.Cpu.new.Statement.{statement}
 use Rattle.sm83.proofs.Cpu.new.Tie as tie
 
 returns : tie.Need-returns
-returns c = simp (c .with-registers .ensures, c .before .zero .ensures)
+returns c = simp (c .awake-with .ensures, c .before .zero .ensures)
 
 pub new-spec : {M : Type 1} → statement M
 new-spec = tie.close (tie.spec (λ c κs. search needs) (λ c κs. search needs) returns)
