@@ -5,7 +5,7 @@
  * answers the number of the document (docs/01-scope.md), or PHK_MALFORMED if a block has the wrong length, a flag is
  * neither 0 nor 1, or the halt mode is above 3; then no byte of any block is changed.
  *
- * What is proved stands in crates/calls/specs/Left.antt and crates/screencall/specs/Screened.antt: the number and every byte of every block, for every input.
+ * What is proved stands in crates/library/specs/Left.antt and crates/library/specs/Screened.antt: the number and every byte of every block, for every input.
  * What is trusted: the compiler's back end, and that the pointers and lengths handed over are true and do not overlap.
  * A pointer may not be null, not even with length 0.
  */

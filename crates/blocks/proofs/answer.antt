@@ -1,3 +1,3 @@
 -- TODO: laws.
 pub mod Answered
-pub mod Answers
+pub mod Standing

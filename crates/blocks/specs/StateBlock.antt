@@ -45,9 +45,9 @@ wellFormed block = eqb (length block) 24 && flagsWellFormed block
 abbrev pub flagAt : List ℕ → ℕ → Bool
 flagAt block at = eqb (byteAt block at) 1
 
-abbrev pub stateAt : List ℕ → Cpu
-stateAt block =
+abbrev pub stateIn : List ℕ → Cpu
+stateIn block =
     record { registers = registersAt block 0; ime = flagAt block 12; latch = flagAt block 13; halt = haltAt (byteAt block 14); stopped = flagAt block 15; hdma = flagAt block 16; dmg = flagAt block 17 }
 
 abbrev pub stateOf : List ℕ → StateRead
-stateOf block = if wellFormed block then State (stateAt block) else Malformed
+stateOf block = if wellFormed block then State (stateIn block) else Malformed

@@ -2,7 +2,7 @@
 ghost use mathlib.Core.Path.{_≡_};
 ghost use Prim.Native.Nat.{_≤_};
 ghost use lib.ListN.{length};
-ghost use Rattle.blocks.specs.StateBlock.{haltNumber, haltAt, stateAt, stateOf, stateBytes};
+ghost use Rattle.blocks.specs.StateBlock.{haltNumber, haltAt, stateIn, stateOf, stateBytes};
 use crate::bytes::flag_byte;
 use crate::bytes::front_registers;
 use crate::bytes::put_registers;
@@ -41,7 +41,7 @@ fn halt_of(n: u8) -> HaltMode
 
 fn state_at(block: &[u8]) -> Cpu
     requires { ⌜ 18 ≤ length (now block) ⌝ }
-    ensures { λ r. ⌜ r ≡ stateAt (now (block .entry)) ⌝ }
+    ensures { λ r. ⌜ r ≡ stateIn (now (block .entry)) ⌝ }
 {
     Cpu {
         registers: front_registers(block),

@@ -10,7 +10,7 @@ use Rattle.outcome.specs.declared.Outcome.the-variants.{Normal}
 use Rattle.definition.specs.Bus.{Kind, Stack, Ask, answer, byteAt, pending, taken}
 use Rattle.definition.specs.Step.{Ended}
 use Rattle.bus.specs.declared.Port.{Port}
-use Rattle.bus.specs.World.{World, Led, world, counted, leads, asked, afterWrite, afterTake, accessing, Reads, Writes, Idles, Peeks, Takes}
+use Rattle.bus.specs.World.{World, Led, world, counted, leads, peeked, afterWrite, afterTake, accessing, Reads, Writes, Idles, Peeks, Takes}
 
 module _ (port port' : Port) (m m' : List ℕ) (e : port' ≡ counted port) (whole : length m' ≡ 65536) where
   pub has-read : (k : Kind) (a v : ℕ) → v ≡ byteAt m a → m' ≡ m → Reads k a port m v port' m'
@@ -34,13 +34,13 @@ left-by : (k : Kind) (a v : ℕ) (port port' : Port) (m m' : List ℕ) → Write
 unfolding leads
 left-by k a v port port' m m' h = ap (λ (l : Led Ended). l .left) (h .there (answer (record { outcome = Normal; cpu = cpu-zero false })))
 
-takes : (port : Port) (m m' : List ℕ) (i : NextInterrupt) (rest : NextInterrupt → Ask Ended) → i ≡ pending m → m' ≡ taken m → leads (rest (asked (world port m))) (afterTake (world port m)) ≡ leads (rest i) (world port m')
+takes : (port : Port) (m m' : List ℕ) (i : NextInterrupt) (rest : NextInterrupt → Ask Ended) → i ≡ pending m → m' ≡ taken m → leads (rest (peeked (world port m))) (afterTake (world port m)) ≡ leads (rest i) (world port m')
 unfolding accessing
 takes port m m' i rest e1 e2 = simp (e1, e2)
 
 pub has-taken : (a v : ℕ) (i : NextInterrupt) (port port' : Port) (m m1 m2 : List ℕ) → Writes Stack a v port m port' m1 → i ≡ pending m1 → m2 ≡ taken m1 → length m2 ≡ 65536 → Takes a v port m i port' m2
 unfolding leads
 has-taken a v i port port' m m1 m2 w e1 e2 whole = record {
-  there = λ rest. ap (λ (x : World). leads (rest (asked x)) (afterTake x)) (left-by Stack a v port port' m m1 w) ∙ takes port' m1 m2 i rest e1 e2;
+  there = λ rest. ap (λ (x : World). leads (rest (peeked x)) (afterTake x)) (left-by Stack a v port port' m m1 w) ∙ takes port' m1 m2 i rest e1 e2;
   whole = whole;
 }

@@ -5,13 +5,13 @@ use Prim.Native.Nat.{ℕ, suc, _+_, _%_, _<_}
 use native.Mathlib.Omega.{arith}
 use lib.ListN.{set}
 use Rattle.outcome.specs.declared.interrupt.NextInterrupt.{NextInterrupt}
-use Rattle.definition.specs.Bus.{Kind, Stack, Ask, answer, read, write, idle, peek, writeAndTake, Bus, Ran, runOn, mcycles, byteAt, pending, taken}
-use Rattle.bus.specs.World.{World, Led, shown, afterRead, afterWrite, afterIdle, asked, afterTake, accessing, leads, behind}
+use Rattle.definition.specs.Bus.{Kind, Stack, Ask, answer, read, write, idle, peek, writeAndTake, Bus, Performed, runOn, mcycles, byteAt, pending, taken}
+use Rattle.bus.specs.World.{World, Led, shown, afterRead, afterWrite, afterIdle, peeked, afterTake, accessing, leads, behind}
 
 -- R says which memories belong together
 pub record Follows {U : Type 0} (b : Bus U) (R : World → U → Type 0) : Type 0 where
   pub shows : (w : World) (v : U) (a : ℕ) → R w v → shown w a ≡ b .sees v a
-  pub asks : (w : World) (v : U) → R w v → asked w ≡ b .peeks v
+  pub asks : (w : World) (v : U) → R w v → peeked w ≡ b .peeks v
   pub by-read : (k : Kind) (w : World) (v : U) (a : ℕ) → R w v → R (afterRead k w a) (b .afterRead k v a)
   pub by-write : (k : Kind) (w : World) (v : U) (a x : ℕ) → R w v → R (afterWrite k w a x) (b .afterWrite k v a x)
   pub by-idle : (w : World) (v : U) → R w v → R (afterIdle w) (b .afterIdle v)
@@ -47,7 +47,7 @@ one-more : (c d n m : ℕ) → d ≡ (c + 1) % 4294967296 → m ≡ (d + n) % 42
 one-more c d n m e f = omega arith
 
 module _ {U : Type 0} (b : Bus U) (R : World → U → Type 0) where
-  pub record Followed {A : Type 0} (l : Led A) (w : World) (q : Ran U A) : Type 0 where
+  pub record Followed {A : Type 0} (l : Led A) (w : World) (q : Performed U A) : Type 0 where
     pub value : l .value ≡ q .value
     pub memory : R (l .left) (q .memory)
     pub counts : cycles (l .left) ≡ (cycles w + mcycles (q .accesses)) % 4294967296
@@ -70,14 +70,14 @@ module _ {U : Type 0} (b : Bus U) (R : World → U → Type 0) where
         let q = follow p (afterIdle w) (b .afterIdle v) (small (cycles w) _ (one-idle w)) (f .by-idle w v r) in
         record { value = q .value; memory = q .memory; counts = one-more (cycles w) _ _ _ (one-idle w) (q .counts) }
     follow (peek g) w v s r =
-        subst (λ (x : NextInterrupt). Followed (leads (g (asked w)) w) w (runOn b (g x) (b .afterPeek v))) (f .asks w v r) (follow (g (asked w)) w (b .afterPeek v) s (f .by-peek w v r))
+        subst (λ (x : NextInterrupt). Followed (leads (g (peeked w)) w) w (runOn b (g x) (b .afterPeek v))) (f .asks w v r) (follow (g (peeked w)) w (b .afterPeek v) s (f .by-peek w v r))
     follow (writeAndTake a x g) w v s r =
         let w1 : World = afterWrite Stack w a x in
         let v1 : U = b .afterWrite Stack v a x in
         let r1 : R w1 v1 = f .by-write Stack w v a x r in
         let once : cycles (afterTake w1) ≡ (cycles w + 1) % 4294967296 = no-take w1 ∙ one-write Stack w a x in
-        let q = follow (g (asked w1)) (afterTake w1) (b .afterTake v1) (small (cycles w) _ once) (f .by-take w1 v1 r1) in
-        subst (λ (y : NextInterrupt). Followed (leads (g (asked w1)) (afterTake w1)) w (runOn b (writeAndTake a x (λ _. g y)) v)) (f .asks w1 v1 r1)
+        let q = follow (g (peeked w1)) (afterTake w1) (b .afterTake v1) (small (cycles w) _ once) (f .by-take w1 v1 r1) in
+        subst (λ (y : NextInterrupt). Followed (leads (g (peeked w1)) (afterTake w1)) w (runOn b (writeAndTake a x (λ _. g y)) v)) (f .asks w1 v1 r1)
         (record { value = q .value; memory = q .memory; counts = one-more (cycles w) _ _ _ once (q .counts) })
 
     -- where a tree is known to lead

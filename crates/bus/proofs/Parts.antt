@@ -7,7 +7,7 @@ use Rattle.sm83.specs.Basics.{next, back, word, highByte, lowByte}
 use Rattle.definition.specs.Bus.{Kind, Operand, Stack, read, write}
 use Rattle.sm83.specs.declared.CpuRegisters.{CpuRegisters}
 use Rattle.sm83.specs.State.{pc, sp, setPC, setSP, pairHL, writeHL, onRegisters}
-use Rattle.definition.specs.Execution.{_>>=_, _>>_, give, setReg, regHL, byteAtPC, imm8, imm16, load, store, wait, push, pop}
+use Rattle.definition.specs.Execution.{_>>=_, _>>_, give, setReg, regHL, byteAtPC, imm8, imm16, load, store, idle, push, pop}
 use Rattle.bus.specs.declared.Port.{Port}
 use Rattle.bus.specs.World.{world, leads, Reads, Writes, Idles}
 use Rattle.bus.specs.Leads.{Leads}
@@ -24,8 +24,8 @@ module _ (s : Cpu) (port port' : Port) (m m' : List ℕ) where
   pub byte-to : (c : Kind) (a v : ℕ) → Writes c a v port m port' m' → Leads (store c a v) s port m tt s port' m'
   byte-to c a v h k = h .there (k tt s)
 
-  pub waited : Idles port m port' m' → Leads wait s port m tt s port' m'
-  waited h k = h .there (k tt s)
+  pub idled : Idles port m port' m' → Leads idle s port m tt s port' m'
+  idled h k = h .there (k tt s)
 
   -- a byte at HL, which then moves by one
   pub byte-at-hl : (f : ℕ → ℕ) (hl v to : ℕ) (regs : CpuRegisters) (t : Cpu) → hl ≡ pairHL (s .registers) → Reads Operand hl port m v port' m' → to ≡ f hl → regs ≡ writeHL to (s .registers) → t ≡ onRegisters (λ _. regs) s → Leads (do a ← regHL; x ← load Operand a; setReg (writeHL (f a)); give x) s port m v t port' m'

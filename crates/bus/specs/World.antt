@@ -42,15 +42,15 @@ afterWrite k w a v = world (counted (w .port)) (set (w .bytes) a v)
 unfoldable pub afterIdle : World → World
 afterIdle w = world (counted (w .port)) (w .bytes)
 
-unfoldable pub asked : World → NextInterrupt
-asked w = pending (w .bytes)
+unfoldable pub peeked : World → NextInterrupt
+peeked w = pending (w .bytes)
 
 unfoldable pub afterTake : World → World
 afterTake w = world (w .port) (taken (w .bytes))
 
 -- a proof that says `unfolding accessing` opens them all
 unfoldable pub accessing : ℕ
-unfolding shown afterRead afterWrite afterIdle asked afterTake
+unfolding shown afterRead afterWrite afterIdle peeked afterTake
 accessing = 0
 
 -- where a tree leads: its answer and the world that it leaves
@@ -63,8 +63,8 @@ leads (answer a) w = record { value = a; left = w }
 leads (read k a f) w = leads (f (shown w a)) (afterRead k w a)
 leads (write k a v p) w = leads p (afterWrite k w a v)
 leads (idle p) w = leads p (afterIdle w)
-leads (peek f) w = leads (f (asked w)) w
-leads (writeAndTake a v f) w = leads (f (asked (afterWrite Stack w a v))) (afterTake (afterWrite Stack w a v))
+leads (peek f) w = leads (f (peeked w)) w
+leads (writeAndTake a v f) w = leads (f (peeked (afterWrite Stack w a v))) (afterTake (afterWrite Stack w a v))
 
 -- What an access does, as contracts state it: whatever comes next, the definition's node leads where the rest leads from the port and the bytes that the code answers.
 

@@ -3,7 +3,7 @@ use mathlib.Core.Path.{_≡_, refl, ap}
 use mathlib.Core.List.{List, _++_}
 use Prim.Native.Nat.{_+_}
 use lib.ListN.{length-append}
-use Rattle.definition.specs.Bus.{Ask, answer, read, write, idle, peek, writeAndTake, Access, Read, Write, Idle, WriteAndTake, Stack, Bus, Ran, logged, runOn, mcycles}
+use Rattle.definition.specs.Bus.{Ask, answer, read, write, idle, peek, writeAndTake, Access, Read, Write, Idle, WriteAndTake, Stack, Bus, Performed, logged, runOn, mcycles}
 
 -- a tree, then the tree that its answer chooses
 unfoldable pub bind : {A B : Type 0} → Ask A → (A → Ask B) → Ask B
@@ -15,7 +15,7 @@ bind (peek g) f = peek (λ i. bind (g i) f)
 bind (writeAndTake a v g) f = writeAndTake a v (λ i. bind (g i) f)
 
 -- what came of it, after these accesses
-abbrev pub after : {W A : Type 0} → List Access → Ran W A → Ran W A
+abbrev pub after : {W A : Type 0} → List Access → Performed W A → Performed W A
 after l r = record { value = r .value; memory = r .memory; accesses = l ++ r .accesses }
 
 pub run-bind : {W A B : Type 0} (b : Bus W) (p : Ask A) (f : A → Ask B) (m : W) → runOn b (bind p f) m ≡ after (runOn b p m .accesses) (runOn b (f (runOn b p m .value)) (runOn b p m .memory))

@@ -7,10 +7,10 @@ use Rattle.sm83.specs.declared.HaltMode.the-variants.{NotHalting}
 use Rattle.outcome.specs.declared.Outcome.{Outcome}
 use Rattle.outcome.specs.declared.Outcome.the-variants.{Halting, RunningHDMA, Stopped}
 use Rattle.sm83.specs.Basics.{if_then_else_}
-use Rattle.definition.specs.Bus.{Access, Idle, Bus, Ran, runOn}
+use Rattle.definition.specs.Bus.{Access, Idle, Bus, Performed, runOn}
 use Rattle.outcome.specs.Interrupts.{isPending}
 use Rattle.sm83.specs.State.{pc, setHalt}
-use Rattle.definition.specs.Execution.{Does, _>>=_, _>>_, give, wait, asked}
+use Rattle.definition.specs.Execution.{Does, _>>=_, _>>_, give, idle, peek}
 use Rattle.definition.specs.Step.{isAsleep, dispatch, instruction, awake, woken, step, Ended, ended, stepTree}
 use Rattle.definition.proofs.Compose.{after}
 
@@ -26,11 +26,11 @@ pub data Passed {W : Type 0} (b : Bus W) (s : Cpu) (m : W) : W → Type 0 where
   ime-clear : s .ime ≡ false → Passed b s m m
   none-pending : s .ime ≡ true → isPending (b .peeks m) ≡ false → Passed b s m (b .afterPeek m)
 
-abbrev pub endedAs : {W : Type 0} → Ended → W → List Access → Ran W Ended
+abbrev pub endedAs : {W : Type 0} → Ended → W → List Access → Performed W Ended
 endedAs e m l = record { value = e; memory = m; accesses = l }
 
 -- What the step comes to.
-pub data Course {W : Type 0} (b : Bus W) (s : Cpu) (m : W) : Ran W Ended → Type 0 where
+pub data Course {W : Type 0} (b : Bus W) (s : Cpu) (m : W) : Performed W Ended → Type 0 where
   point1 : s .stopped ≡ true → Course b s m (endedAs (record { outcome = Stopped; cpu = s }) (b .afterIdle m) (Idle ∷ []))
   point2 : s .stopped ≡ false → s .hdma ≡ true → Course b s m (endedAs (record { outcome = RunningHDMA; cpu = s }) (b .afterIdle m) (Idle ∷ []))
   point3 : s .stopped ≡ false → s .hdma ≡ false → isAsleep (s .halt) ≡ true → isPending (b .peeks (b .afterIdle m)) ≡ false → Course b s m (endedAs (record { outcome = Halting; cpu = s }) (b .afterPeek (b .afterIdle m)) (Idle ∷ []))
@@ -39,13 +39,13 @@ pub data Course {W : Type 0} (b : Bus W) (s : Cpu) (m : W) : Ran W Ended → Typ
 
 -- the definition's step from point 3, 2 and 1 on, by the answers to its questions
 abbrev from3 : Bool → Does Ended Outcome
-from3 a = if a then (do wait; i ← asked; if isPending i then woken else give Halting) else awake
+from3 a = if a then (do idle; i ← peek; if isPending i then woken else give Halting) else awake
 
 abbrev from2 : Bool → Bool → Does Ended Outcome
-from2 h a = if h then (do wait; give RunningHDMA) else from3 a
+from2 h a = if h then (do idle; give RunningHDMA) else from3 a
 
 abbrev from1 : Bool → Bool → Bool → Does Ended Outcome
-from1 t h a = if t then (do wait; give Stopped) else from2 h a
+from1 t h a = if t then (do idle; give Stopped) else from2 h a
 
 module _ {W : Type 0} (b : Bus W) (s : Cpu) (m : W) where
   abbrev Runs : Does Ended Outcome → Cpu → W → List Access → Type 0
@@ -57,7 +57,7 @@ module _ {W : Type 0} (b : Bus W) (s : Cpu) (m : W) where
       by-pending true i e = point4 running no-hdma l t w woke i e
       by-pending false i e = points5to7 running no-hdma l t w (b .afterPeek w) woke (none-pending i e)
 
-      by-ime : (i : Bool) → t .ime ≡ i → Runs (if i then (do j ← asked; if isPending j then dispatch else instruction) else instruction) t w l
+      by-ime : (i : Bool) → t .ime ≡ i → Runs (if i then (do j ← peek; if isPending j then dispatch else instruction) else instruction) t w l
       unfolding runOn
       by-ime true e = by-pending (isPending (b .peeks w)) e refl
       by-ime false e = points5to7 running no-hdma l t w w woke (ime-clear e)
@@ -66,7 +66,7 @@ module _ {W : Type 0} (b : Bus W) (s : Cpu) (m : W) where
       unfolding awake
       by-awake = by-ime (t .ime) refl
 
-    by-dmg : (d : Bool) → isAsleep (s .halt) ≡ true → isPending (b .peeks (b .afterIdle m)) ≡ true → s .dmg ≡ d → Runs (if d then awake else (do wait; awake)) (setHalt NotHalting s) (b .afterPeek (b .afterIdle m)) (Idle ∷ [])
+    by-dmg : (d : Bool) → isAsleep (s .halt) ≡ true → isPending (b .peeks (b .afterIdle m)) ≡ true → s .dmg ≡ d → Runs (if d then awake else (do idle; awake)) (setHalt NotHalting s) (b .afterPeek (b .afterIdle m)) (Idle ∷ [])
     unfolding runOn
     by-dmg true a p e = by-awake (Idle ∷ []) _ _ (woke-dmg a p e)
     by-dmg false a p e = by-awake (Idle ∷ Idle ∷ []) _ _ (woke-cgb a p e)
@@ -104,14 +104,14 @@ module _ {W : Type 0} (b : Bus W) where
   from-three : (s : Cpu) (m : W) {a : Bool} → s .stopped ≡ false → s .hdma ≡ false → isAsleep (s .halt) ≡ a → runOn b (stepTree s) m ≡ runOn b (from3 a s ended) m
   unfolding step
   from-three s m r h a =
-      chosen (do wait; give Stopped) (from2 (s .hdma) (isAsleep (s .halt))) s m r
-      ∙ chosen (do wait; give RunningHDMA) (from3 (isAsleep (s .halt))) s m h
+      chosen (do idle; give Stopped) (from2 (s .hdma) (isAsleep (s .halt))) s m r
+      ∙ chosen (do idle; give RunningHDMA) (from3 (isAsleep (s .halt))) s m h
       ∙ ap (λ (z : Bool). runOn b (from3 z s ended) m) a
 
-  roused : (s : Cpu) (m : W) {d : Bool} → isPending (b .peeks (b .afterIdle m)) ≡ true → s .dmg ≡ d → runOn b (from3 true s ended) m ≡ after (Idle ∷ []) (runOn b ((if d then awake else (do wait; awake)) (setHalt NotHalting s) ended) (b .afterPeek (b .afterIdle m)))
+  roused : (s : Cpu) (m : W) {d : Bool} → isPending (b .peeks (b .afterIdle m)) ≡ true → s .dmg ≡ d → runOn b (from3 true s ended) m ≡ after (Idle ∷ []) (runOn b ((if d then awake else (do idle; awake)) (setHalt NotHalting s) ended) (b .afterPeek (b .afterIdle m)))
   unfolding runOn
   roused s m p d =
-      ap (after (Idle ∷ [])) (chosen woken (give Halting) s (b .afterPeek (b .afterIdle m)) p ∙ chosen awake (do wait; awake) (setHalt NotHalting s) (b .afterPeek (b .afterIdle m)) d)
+      ap (after (Idle ∷ [])) (chosen woken (give Halting) s (b .afterPeek (b .afterIdle m)) p ∙ chosen awake (do idle; awake) (setHalt NotHalting s) (b .afterPeek (b .afterIdle m)) d)
 
   pub wakes : (s : Cpu) (m : W) {l : List Access} {t : Cpu} {w : W} → s .stopped ≡ false → s .hdma ≡ false → Woke b s m l t w → runOn b (stepTree s) m ≡ after l (runOn b (awake t ended) w)
   unfolding runOn
@@ -121,14 +121,14 @@ module _ {W : Type 0} (b : Bus W) where
 
   pub passes : (t : Cpu) (w : W) {v : W} → Passed b t w v → runOn b (awake t ended) w ≡ runOn b (instruction t ended) v
   unfolding awake runOn
-  passes t w (ime-clear i) = chosen (do j ← asked; if isPending j then dispatch else instruction) instruction t w i
+  passes t w (ime-clear i) = chosen (do j ← peek; if isPending j then dispatch else instruction) instruction t w i
   passes t w (none-pending i p) =
-      chosen (do j ← asked; if isPending j then dispatch else instruction) instruction t w i ∙ chosen dispatch instruction t (b .afterPeek w) p
+      chosen (do j ← peek; if isPending j then dispatch else instruction) instruction t w i ∙ chosen dispatch instruction t (b .afterPeek w) p
 
   pub dispatches : (t : Cpu) (w : W) → t .ime ≡ true → isPending (b .peeks w) ≡ true → runOn b (awake t ended) w ≡ runOn b (dispatch t ended) (b .afterPeek w)
   unfolding awake runOn
   dispatches t w i p =
-      chosen (do j ← asked; if isPending j then dispatch else instruction) instruction t w i ∙ chosen dispatch instruction t (b .afterPeek w) p
+      chosen (do j ← peek; if isPending j then dispatch else instruction) instruction t w i ∙ chosen dispatch instruction t (b .afterPeek w) p
 
   -- waking changes the halt mode alone
   pub woke-pc : {s t : Cpu} {m w : W} {l : List Access} → Woke b s m l t w → pc t ≡ pc s

@@ -10,7 +10,7 @@ use Rattle.sm83.specs.declared.HaltMode.the-variants.{NotHalting}
 use Rattle.outcome.specs.declared.Outcome.{Outcome}
 use Rattle.outcome.specs.declared.Outcome.the-variants.{Normal, RunningInterrupt}
 use Rattle.sm83.specs.Basics.{if_then_else_, highByte, lowByte, back}
-use Rattle.definition.specs.Bus.{Access, Write, Idle, WriteAndTake, Stack, Bus, Ran, runOn, pending, taken, plain}
+use Rattle.definition.specs.Bus.{Access, Write, Idle, WriteAndTake, Stack, Bus, Performed, runOn, pending, taken, plain}
 use Rattle.outcome.specs.declared.interrupt.InterruptType.{InterruptType}
 use Rattle.outcome.specs.declared.interrupt.NextInterrupt.{NextInterrupt}
 use Rattle.outcome.specs.declared.interrupt.NextInterrupt.the-variants.{NonePending, Pending}
@@ -71,14 +71,14 @@ module _ (s : Cpu) (m : List ℕ) (whole : length m ≡ 65536) (low-bits : flags
   -- "PC is its vector, the outcome RunningInterrupt with its number"
   pub dispatch-some : (i : InterruptType) → pending (pushedHigh s m) ≡ Pending i → (stepOn plain s m .value .outcome ≡ RunningInterrupt i) × (pc (stepOn plain s m .value .cpu) ≡ vector i)
   dispatch-some i e = (
-    ap (λ (r : Ran (List ℕ) Ended). r .value .outcome) dispatch-step ∙ ap dispatchedAs e,
-    ap (λ (r : Ran (List ℕ) Ended). pc (r .value .cpu)) dispatch-step ∙ ap entryOf e,
+    ap (λ (r : Performed (List ℕ) Ended). r .value .outcome) dispatch-step ∙ ap dispatchedAs e,
+    ap (λ (r : Performed (List ℕ) Ended). pc (r .value .cpu)) dispatch-step ∙ ap entryOf e,
   )
 
   -- "If none is left, PC is 0 and the outcome is Normal": and 0xFF0F is not cleared
   pub dispatch-none : pending (pushedHigh s m) ≡ NonePending → (stepOn plain s m .value .outcome ≡ Normal) × (pc (stepOn plain s m .value .cpu) ≡ 0) × (stepOn plain s m .memory ≡ set (pushedHigh s m) (back (back (sp s))) (lowByte (pc s)))
   dispatch-none e = (
-    ap (λ (r : Ran (List ℕ) Ended). r .value .outcome) dispatch-step ∙ ap dispatchedAs e,
-    ap (λ (r : Ran (List ℕ) Ended). pc (r .value .cpu)) dispatch-step ∙ ap entryOf e,
-    ap (λ (r : Ran (List ℕ) Ended). r .memory) dispatch-step ∙ ap (λ (w : List ℕ). set w (back (back (sp s))) (lowByte (pc s))) (none-taken (pushedHigh s m) e),
+    ap (λ (r : Performed (List ℕ) Ended). r .value .outcome) dispatch-step ∙ ap dispatchedAs e,
+    ap (λ (r : Performed (List ℕ) Ended). pc (r .value .cpu)) dispatch-step ∙ ap entryOf e,
+    ap (λ (r : Performed (List ℕ) Ended). r .memory) dispatch-step ∙ ap (λ (w : List ℕ). set w (back (back (sp s))) (lowByte (pc s))) (none-taken (pushedHigh s m) e),
   )

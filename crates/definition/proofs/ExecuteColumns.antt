@@ -6,7 +6,7 @@ use Prim.Native.Nat.{ℕ, suc}
 use Rattle.sm83.specs.declared.Cpu.{Cpu}
 use Rattle.outcome.specs.declared.Outcome.the-variants.{Normal}
 use Rattle.sm83.specs.Basics.{next}
-use Rattle.definition.specs.Bus.{Fetch, Ask, Bus, Ran, runOn, Access, Read}
+use Rattle.definition.specs.Bus.{Fetch, Ask, Bus, Performed, runOn, Access, Read}
 use Rattle.sm83.specs.State.{pc, flags, setPC}
 use Rattle.opcodes.specs.Instruction.{Instruction, does, goes, CB-prefix, HALT, STOP, EI, LD-B-B, ILLEGAL, decodeCB, operands}
 use Rattle.definition.specs.Execution.{work, jump, prefixed, execute, executing}
@@ -34,7 +34,7 @@ module _ {W : Type 0} (b : Bus W) where
   on-memory {more} {k} {jumping} {refused} {column} {a} {f} p h m = ends-on b (Columns more k jumping refused column a f) p h m
 
   -- what an instruction at `at` comes to, from the state after its fetch
-  abbrev pub executed : ℕ → Instruction → Cpu → W → Ran W Ended
+  abbrev pub executed : ℕ → Instruction → Cpu → W → Performed W Ended
   executed at i s m = runOn b (execute at i s ended) m
 
   pub execute-columns : (at : ℕ) (i : Instruction) (s : Cpu) (m : W) → Columns (cyclesOf (jumps i (flags s)) i (b .sees m (pc s))) (operands i) (jumps i (flags s)) (isIllegal i) (flagsOf i (b .sees m (pc s))) (pc s) (flags s) (executed at i s m .accesses) (executed at i s m .value)

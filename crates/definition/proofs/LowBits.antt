@@ -7,7 +7,7 @@ use Prim.Native.Nat.{ℕ, _%_}
 use Rattle.sm83.specs.declared.Cpu.{Cpu}
 use Rattle.sm83.specs.declared.HaltMode.the-variants.{NotHalting}
 use Rattle.sm83.specs.Basics.{if_then_else_, next}
-use Rattle.definition.specs.Bus.{Access, Fetch, Bus, Ran, runOn}
+use Rattle.definition.specs.Bus.{Access, Fetch, Bus, Performed, runOn}
 use Rattle.sm83.specs.State.{pc, flags, setPC, setIme, setLatch, setHalt}
 use Rattle.opcodes.specs.Instruction.{decode}
 use Rattle.definition.specs.Step.{isBug, enabled, fetched, instruction, Ended, ended, Admission, accepted, refusedAs, admission, admitted, stepOn}
@@ -39,7 +39,7 @@ module _ {W : Type 0} (b : Bus W) where
   woke-low (woke-dmg a p d) low = low
   woke-low (woke-cgb a p d) low = low
 
-  by-course : {s : Cpu} {m : W} {r : Ran W Ended} → Course b s m r → Low s → Low (r .value .cpu)
+  by-course : {s : Cpu} {m : W} {r : Performed W Ended} → Course b s m r → Low s → Low (r .value .cpu)
   unfolding runOn
   by-course (point1 p) low = low
   by-course (point2 p q) low = low

@@ -8,14 +8,15 @@ use Rattle.outcome.specs.declared.Outcome.{Outcome}
 use Rattle.outcome.specs.declared.Outcome.the-variants.{Normal, InfiniteLoop, Halting, RunningHDMA, Stopped, RunningInterrupt, Breakpoint, Refused}
 use Rattle.sm83.specs.declared.HaltMode.the-variants.{HaltRunInterrupt, HaltNoRunInterrupt, HaltBug}
 use Rattle.sm83.specs.Basics.{if_then_else_, word, next, offset}
-use Rattle.definition.specs.Bus.{Ask, answer, read, write, idle, peek, writeAndTake, Stack, Bus, runOn}
+use Rattle.definition.specs.Bus as bus
+use Rattle.definition.specs.Bus.{Ask, answer, read, write, idle, writeAndTake, Stack, Bus, runOn}
 use Rattle.outcome.specs.declared.interrupt.NextInterrupt.{NextInterrupt}
 use Rattle.outcome.specs.Interrupts.{isPending}
 use Rattle.opcodes.specs.Arithmetic.{holds}
 use Rattle.sm83.specs.State.{pc, flags, pairHL, setHalt}
 use Rattle.opcodes.specs.Instruction.{Jump, JP-n16, JP-HL, JR-e8, CALL-n16, RET, RETI, JP-cc-n16, JR-cc-e8, CALL-cc-n16, RET-cc, RST-vec}
 use Rattle.opcodes.specs.Instruction.{Instruction, does, goes, CB-prefix, HALT, STOP, EI, LD-B-B, ILLEGAL, decodeCB}
-use Rattle.definition.specs.Execution.{Does, _>>=_, _>>_, change, asked, byteAtPC, work, prefixed, jump, execute, executing}
+use Rattle.definition.specs.Execution.{Does, _>>=_, _>>_, change, peek, byteAtPC, work, prefixed, jump, execute, executing}
 use Rattle.definition.specs.Step.{Ended, ended}
 use Rattle.definition.proofs.Compose.{bind}
 use Rattle.definition.proofs.Parts.{left, work-alone, prefixed-alone}
@@ -37,7 +38,7 @@ Never (answer e) = T (not (refuses (e .outcome)))
 Never (read k a f) = (v : ℕ) → Never (f v)
 Never (write k a v p) = Never p
 Never (idle p) = Never p
-Never (peek f) = (i : NextInterrupt) → Never (f i)
+Never (bus.peek f) = (i : NextInterrupt) → Never (f i)
 Never (writeAndTake a v f) = (i : NextInterrupt) → Never (f i)
 
 pub never-run : {W : Type 0} (b : Bus W) (p : Ask Ended) (m : W) → Never p → T (not (refuses (runOn b p m .value .outcome)))
@@ -46,7 +47,7 @@ never-run b (answer e) m h = h
 never-run b (read k a f) m h = never-run b (f (b .sees m a)) (b .afterRead k m a) (h (b .sees m a))
 never-run b (write k a v p) m h = never-run b p (b .afterWrite k m a v) h
 never-run b (idle p) m h = never-run b p (b .afterIdle m) h
-never-run b (peek f) m h = never-run b (f (b .peeks m)) (b .afterPeek m) (h (b .peeks m))
+never-run b (bus.peek f) m h = never-run b (f (b .peeks m)) (b .afterPeek m) (h (b .peeks m))
 never-run b (writeAndTake a v f) m h =
     never-run b (f (b .peeks (b .afterWrite Stack m a v))) (b .afterTake (b .afterWrite Stack m a v)) (h (b .peeks (b .afterWrite Stack m a v)))
 
@@ -57,7 +58,7 @@ never-then (answer a) f h = h a
 never-then (read k a g) f h = λ v. never-then (g v) f h
 never-then (write k a v p) f h = never-then p f h
 never-then (idle p) f h = never-then p f h
-never-then (peek g) f h = λ i. never-then (g i) f h
+never-then (bus.peek g) f h = λ i. never-then (g i) f h
 never-then (writeAndTake a v g) f h = λ i. never-then (g i) f h
 
 pub never-either : (t : Bool) (p q : Does Ended Outcome) (s : Cpu) → Never (p s ended) → Never (q s ended) → Never ((if t then p else q) s ended)
@@ -82,7 +83,7 @@ jump-never at (CALL-cc-n16 c) s = λ x y. never-either (holds c (flags s)) _ _ _
 jump-never at (RET-cc c) s = never-either (holds c (flags s)) _ _ _ (λ x y. tt) tt
 jump-never at (RST-vec v) s = tt
 
-halt-never : (t : Bool) (s : Cpu) → Never ((if t then change (setHalt HaltRunInterrupt) else (do i ← asked; change (setHalt (if isPending i then HaltBug else HaltNoRunInterrupt)))) s (λ u t'. ended Normal t'))
+halt-never : (t : Bool) (s : Cpu) → Never ((if t then change (setHalt HaltRunInterrupt) else (do i ← peek; change (setHalt (if isPending i then HaltBug else HaltNoRunInterrupt)))) s (λ u t'. ended Normal t'))
 halt-never true s = tt
 halt-never false s = λ i. tt
 

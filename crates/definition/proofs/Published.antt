@@ -9,7 +9,7 @@ use Rattle.sm83.specs.declared.Cpu.{Cpu}
 use Rattle.outcome.specs.declared.Refusal.the-variants.{IllegalOpcode}
 use Rattle.outcome.specs.declared.Outcome.the-variants.{Refused}
 use Rattle.sm83.specs.Basics.{next, offset}
-use Rattle.definition.specs.Bus.{Fetch, Read, Bus, Ran, runOn, logged, mcycles}
+use Rattle.definition.specs.Bus.{Fetch, Read, Bus, Performed, runOn, logged, mcycles}
 use Rattle.sm83.specs.State.{pc, sp, flags, setPC}
 use Rattle.opcodes.specs.Instruction.{Instruction, does, goes, CB-prefix, HALT, STOP, EI, LD-B-B, ILLEGAL, decode, operands, lengthOf}
 use Rattle.definition.specs.Execution.{executing}
@@ -40,7 +40,7 @@ abbrev pub illegal-at : {W : Type 0} → Bus W → Cpu → W → Bool
 illegal-at b s m = oneOf illegalOpcodes (opcode b s m)
 
 -- What a step from s and m came to keeps to what is published.
-pub record Agreed {W : Type 0} (b : Bus W) (s : Cpu) (m : W) (r : Ran W Ended) : Type 0 where
+pub record Agreed {W : Type 0} (b : Bus W) (s : Cpu) (m : W) (r : Performed W Ended) : Type 0 where
   -- "M-cycles by the list"
   pub cycles : mcycles (r .accesses) ≡ publishedCycles (jumps-at b s m) (opcode b s m) (second b s m)
   -- "flags by the bits"

@@ -15,7 +15,7 @@ use Rattle.outcome.specs.declared.Refusal.{Refusal}
 use Rattle.outcome.specs.declared.Refusal.the-variants.{MemoryLength, LowBitsOfF, IllegalOpcode}
 use Rattle.outcome.specs.declared.Outcome.the-variants.{Refused}
 use Rattle.sm83.specs.Basics.{if_then_else_}
-use Rattle.definition.specs.Bus.{Access, Read, Fetch, Bus, Ran, logged, runOn, byteAt, pending, plain}
+use Rattle.definition.specs.Bus.{Access, Read, Fetch, Bus, Performed, logged, runOn, byteAt, pending, plain}
 use Rattle.outcome.specs.Interrupts.{isPending}
 use Rattle.sm83.specs.State.{pc, flags, setPC, setIme, setLatch}
 use Rattle.opcodes.specs.Instruction.{Instruction, ILLEGAL, decode}
@@ -94,7 +94,7 @@ pc-enabled t true = refl
 pc-enabled t false = refl
 
 module _ {W : Type 0} (b : Bus W) where
-  abbrev refusedThere : W → ℕ → Cpu → List Access → Ran W Ended
+  abbrev refusedThere : W → ℕ → Cpu → List Access → Performed W Ended
   refusedThere v p c l = endedAs (record { outcome = Refused IllegalOpcode; cpu = c }) (b .afterRead Fetch v p) (l ++ Read Fetch p ∷ [])
 
   left-same : {s t : Cpu} {m w : W} {l : List Access} → Woke b s m l t w → leftBy3 t ≡ leftBy3 s

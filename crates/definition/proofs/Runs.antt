@@ -13,7 +13,7 @@ use Rattle.outcome.specs.declared.Outcome.the-variants.{Refused}
 use Rattle.outcome.specs.declared.LastOutcome.{LastOutcome}
 use Rattle.outcome.specs.declared.LastOutcome.the-variants.{NothingRun, Last}
 use Rattle.sm83.specs.Basics.{if_then_else_}
-use Rattle.definition.specs.Bus.{Bus, Ran, mcycles}
+use Rattle.definition.specs.Bus.{Bus, Performed, mcycles}
 use Rattle.definition.specs.Step.{Ended, Admission, accepted, refusedAs, admission, stepOn}
 use Rattle.definition.specs.Run.{stopsRun, stopsLast, RunAnswer, thenRest, repeated, admittedRun, runFor}
 
@@ -29,7 +29,7 @@ module _ {W : Type 0} (b : Bus W) where
   afterSteps (suc k) s m = afterSteps k (stepOn b s m .value .cpu) (stepOn b s m .memory)
 
   -- the step after k steps
-  abbrev pub stepAfter : ℕ → Cpu → W → Ran W Ended
+  abbrev pub stepAfter : ℕ → Cpu → W → Performed W Ended
   stepAfter k s m = stepOn b (afterSteps k s m .cpu) (afterSteps k s m .memory)
 
   -- the M-cycles of the first k steps: the lengths of their lists of accesses
@@ -95,7 +95,7 @@ module _ {W : Type 0} (b : Bus W) where
   repeated-repeats o zero s m =
       record { ends-in = refl; leaves = refl; costs = refl; answers = refl; in-budget = omega arith; early = λ h. absurd (omega arith); not-before = λ k h. absurd (omega arith) }
   repeated-repeats o (suc n) s m =
-      let r : Ran W Ended = stepOn b s m in
+      let r : Performed W Ended = stepOn b s m in
       either-way (stopsRun (r .value .outcome)) _ _ (Repeats b o (suc n) s m) (stopped-there o n s m)
       (λ t. went-on o n s m _ t (repeated-repeats (Last (r .value .outcome)) n (r .value .cpu) (r .memory)))
 
@@ -118,7 +118,7 @@ module _ {W : Type 0} (b : Bus W) (I : Cpu → W → Type 0) (O : Outcome → Ty
   unfolding repeated Ends
   repeated-keeps o zero s m p h = (h, p)
   repeated-keeps o (suc n) s m p h =
-      let r : Ran W Ended = stepOn b s m in
+      let r : Performed W Ended = stepOn b s m in
       either-way b (stopsRun (r .value .outcome)) _ _ Ends (λ t. steps s m h)
       (λ t. repeated-keeps (Last (r .value .outcome)) n (r .value .cpu) (r .memory) (steps s m h .1) (steps s m h .0))
 

@@ -10,7 +10,7 @@ use Rattle.outcome.specs.declared.Outcome.{Outcome}
 use Rattle.outcome.specs.declared.LastOutcome.{LastOutcome}
 use Rattle.outcome.specs.declared.LastOutcome.the-variants.{NothingRun, Last}
 use Rattle.sm83.specs.Basics.{if_then_else_}
-use Rattle.definition.specs.Bus.{Bus, Ran, mcycles}
+use Rattle.definition.specs.Bus.{Bus, Performed, mcycles}
 use Rattle.definition.specs.Step.{Ended, Admission, accepted, refusedAs, admission, stepOn}
 use Rattle.definition.specs.Run.{stopsRun, stopsLast, RunAnswer, thenRest, repeated, admittedRun, runFor}
 use Rattle.definition.proofs.Runs.{either-way}
@@ -65,14 +65,14 @@ module _ {W : Type 0} (b : Bus W) where
   unfolding repeated
   later o p zero s m = refl
   later o p (suc n) s m =
-      let r : Ran W Ended = stepOn b s m in
+      let r : Performed W Ended = stepOn b s m in
       either-way b (stopsRun (r .value .outcome)) _ _ (λ x. laterOf o (x .last) ≡ x .last) (λ t. refl) (λ t. later o (r .value .outcome) n (r .value .cpu) (r .memory))
 
   afresh : (o : LastOutcome) (n : ℕ) (s : Cpu) (m : W) → repeated b o n s m ≡ followedBy (begun o s m) (repeated b NothingRun n s m)
   unfolding repeated
   afresh o zero s m = refl
   afresh o (suc n) s m =
-      let r : Ran W Ended = stepOn b s m in
+      let r : Performed W Ended = stepOn b s m in
       either-way b (stopsRun (r .value .outcome)) _ _ (λ x. x ≡ followedBy (begun o s m) x) (λ t. nothing-before o s m _ refl)
       (λ t. nothing-before o s m _ (later o (r .value .outcome) n (r .value .cpu) (r .memory)))
 
@@ -87,7 +87,7 @@ module _ {W : Type 0} (b : Bus W) where
       ap (λ (n : ℕ). repeated b o n s m) e ∙ afresh o j s m ∙ goes-on (stopsLast o) (begun o s m) _ h
   repeated-in-two o h (suc i) j s m =
       let e : suc i + j ≡ suc (i + j) = omega arith in
-      let r : Ran W Ended = stepOn b s m in
+      let r : Performed W Ended = stepOn b s m in
       let c : ℕ = mcycles (r .accesses) in
       let rest : RunAnswer W = repeated b (Last (r .value .outcome)) i (r .value .cpu) (r .memory) in
       ap (λ (n : ℕ). repeated b o n s m) e

@@ -8,11 +8,11 @@ use Rattle.sm83.specs.declared.Cpu.{Cpu}
 use Rattle.sm83.specs.declared.HaltMode.the-variants.{NotHalting}
 use Rattle.outcome.specs.declared.Outcome.{Outcome}
 use Rattle.sm83.specs.Basics.{if_then_else_}
-use Rattle.definition.specs.Bus.{Idle, Bus, Ran, runOn, logged, mcycles}
+use Rattle.definition.specs.Bus.{Idle, Bus, Performed, runOn, logged, mcycles}
 use Rattle.outcome.specs.Interrupts.{isPending}
 use Rattle.sm83.specs.State.{flags, setHalt}
 use Rattle.opcodes.specs.Instruction.{Instruction, decode}
-use Rattle.definition.specs.Execution.{Does, _>>_, wait}
+use Rattle.definition.specs.Execution.{Does, _>>_, idle}
 use Rattle.definition.specs.Step.{isAsleep, awake, step, Ended, ended, admission, accepted, stepOn}
 use Rattle.opcodes.proofs.Choices.{by-cases, if-so, if-not, and-not}
 use Rattle.definition.proofs.Cycles.{cyclesOf, jumps}
@@ -54,11 +54,11 @@ module _ {W : Type 0} (b : Bus W) where
   wokenMemory s m = let n : W = b .afterPeek (b .afterIdle m) in if s .dmg then n else b .afterIdle n
 
   -- one idle access, and one more if not DMG
-  abbrev pub waking : Bool → Ran W Ended → Ran W Ended
+  abbrev pub waking : Bool → Performed W Ended → Performed W Ended
   waking true r = logged Idle r
   waking false r = logged Idle (logged Idle r)
 
-  woken-is : (t : Bool) (s : Cpu) (n : W) → logged Idle (runOn b ((if t then awake else (wait >> awake)) s ended) n) ≡ waking t (runOn b (awake s ended) (if t then n else b .afterIdle n))
+  woken-is : (t : Bool) (s : Cpu) (n : W) → logged Idle (runOn b ((if t then awake else (idle >> awake)) s ended) n) ≡ waking t (runOn b (awake s ended) (if t then n else b .afterIdle n))
   unfolding runOn
   woken-is true s n = refl
   woken-is false s n = refl
@@ -72,16 +72,16 @@ module _ {W : Type 0} (b : Bus W) where
       ∙ woken-is (s .dmg) (setHalt NotHalting s) (b .afterPeek (b .afterIdle m))
       ∙ sym (ap (λ (d : Does Ended Outcome). waking (s .dmg) (runOn b (d (setHalt NotHalting s) ended) (wokenMemory s m))) (if-not _ _ e ∙ if-not _ _ h))
 
-  waking-costs : (t : Bool) (r : Ran W Ended) → mcycles (waking t r .accesses) ≡ (if t then 1 else 2) + mcycles (r .accesses)
+  waking-costs : (t : Bool) (r : Performed W Ended) → mcycles (waking t r .accesses) ≡ (if t then 1 else 2) + mcycles (r .accesses)
   waking-costs true r = omega arith
   waking-costs false r = omega arith
 
   pub waking-adds : (s : Cpu) (m : W) → s .stopped ≡ false → s .hdma ≡ false → isAsleep (s .halt) ≡ true → isPending (b .peeks (b .afterIdle m)) ≡ true → cost s m ≡ (if s .dmg then 1 else 2) + cost (setHalt NotHalting s) (wokenMemory s m)
-  waking-adds s m e h a i = ap (λ (r : Ran W Ended). mcycles (r .accesses)) (step-wakes s m e h a i) ∙ waking-costs (s .dmg) _
+  waking-adds s m e h a i = ap (λ (r : Performed W Ended). mcycles (r .accesses)) (step-wakes s m e h a i) ∙ waking-costs (s .dmg) _
 
   -- 5 to 7. the instruction's own
   pub instruction-costs : (s : Cpu) (m : W) → Runs b s m → cost s m ≡ suc (cyclesOf (jumps (decode (opcode b s m)) (flags s)) (decode (opcode b s m)) (second b s m))
-  instruction-costs s m r = ap (λ (x : Ran W Ended). mcycles (x .accesses)) (step-runs b s m r) ∙ ap suc (step-columns b s m .count)
+  instruction-costs s m r = ap (λ (x : Performed W Ended). mcycles (x .accesses)) (step-runs b s m r) ∙ ap suc (step-columns b s m .count)
 
   -- between two bounds
   abbrev Within : ℕ → ℕ → ℕ → Type 0
@@ -122,4 +122,4 @@ module _ {W : Type 0} (b : Bus W) where
       (λ a. let k : Within 1 6 (cost s m) = awake-within s m e h a in (omega (arith, k), omega (arith, k)))))
 
   pub accepted-one-to-eight : (s : Cpu) (m : W) → admission b s m ≡ accepted → (1 ≤ mcycles (stepOn b s m .accesses)) × (mcycles (stepOn b s m .accesses) ≤ 8)
-  accepted-one-to-eight s m e = subst (λ (r : Ran W Ended). Within 1 8 (mcycles (r .accesses))) (sym (accepted-step b s m e)) (one-to-eight s m)
+  accepted-one-to-eight s m e = subst (λ (r : Performed W Ended). Within 1 8 (mcycles (r .accesses))) (sym (accepted-step b s m e)) (one-to-eight s m)

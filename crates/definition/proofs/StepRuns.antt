@@ -7,11 +7,11 @@ use Rattle.sm83.specs.declared.Cpu.{Cpu}
 use Rattle.sm83.specs.declared.HaltMode.the-variants.{NotHalting}
 use Rattle.outcome.specs.declared.Outcome.{Outcome}
 use Rattle.sm83.specs.Basics.{if_then_else_, next}
-use Rattle.definition.specs.Bus.{Fetch, Read, byteAt, plain, Ask, Bus, Ran, runOn, logged}
+use Rattle.definition.specs.Bus.{Fetch, Read, byteAt, plain, Ask, Bus, Performed, runOn, logged}
 use Rattle.outcome.specs.Interrupts.{isPending}
 use Rattle.sm83.specs.State.{pc, sp, flags, setPC, setIme, setLatch, setHalt}
 use Rattle.opcodes.specs.Instruction.{Instruction, decode, operands}
-use Rattle.definition.specs.Execution.{Does, asked, _>>=_}
+use Rattle.definition.specs.Execution.{Does, peek, _>>=_}
 use Rattle.definition.specs.Step.{isAsleep, isBug, dispatch, enabled, fetched, instruction, awake, step, Ended, ended, stepTree, Admission, admission, accepted, admitted, stepOn}
 use Rattle.opcodes.proofs.Choices.{if-not, if-same}
 use Rattle.opcodes.proofs.FlagColumns.{flagsOf}
@@ -51,7 +51,7 @@ starts s =
 
 module _ {W : Type 0} (b : Bus W) where
   -- the step, as the tree on this memory: what `stepOn` answers of an accepted state
-  abbrev pub stepped : Cpu → W → Ran W Ended
+  abbrev pub stepped : Cpu → W → Performed W Ended
   stepped s m = runOn b (stepTree s) m
 
   pub accepted-step : (s : Cpu) (m : W) → admission b s m ≡ accepted → stepOn b s m ≡ stepped s m
@@ -70,10 +70,10 @@ module _ {W : Type 0} (b : Bus W) where
   second s m = b .sees (b .afterRead Fetch (atFetch s m) (pc s)) (afterFetch s)
 
   -- what comes after the fetch
-  abbrev pub rest : Cpu → W → Ran W Ended
+  abbrev pub rest : Cpu → W → Performed W Ended
   rest s m = executed b (pc s) (decode (opcode s m)) (fetched (enabled s)) (b .afterRead Fetch (atFetch s m) (pc s))
 
-  uninterrupted-step : (t : Bool) (s : Cpu) (m : W) → (t && isPending (b .peeks m)) ≡ false → runOn b ((if t then (asked >>= (λ i. if isPending i then dispatch else instruction)) else instruction) s ended) m ≡ runOn b (instruction s ended) (if t then b .afterPeek m else m)
+  uninterrupted-step : (t : Bool) (s : Cpu) (m : W) → (t && isPending (b .peeks m)) ≡ false → runOn b ((if t then (peek >>= (λ i. if isPending i then dispatch else instruction)) else instruction) s ended) m ≡ runOn b (instruction s ended) (if t then b .afterPeek m else m)
   unfolding runOn
   uninterrupted-step true s m e = ap (λ (d : Does Ended Outcome). runOn b (d s ended) (b .afterPeek m)) (if-not dispatch instruction e)
   uninterrupted-step false s m e = refl

@@ -22,10 +22,10 @@ hasRun (Last o) = true
 
 module _ {W : Type 0} (b : Bus W) (s : Cpu) (m : W) where
   -- none of the first n steps stops a run
-  abbrev pub GoesOn : ℕ → Type 0
-  GoesOn n = (k : ℕ) → k < n → T (not (stopsRun (stepAfter b k s m .value .outcome)))
+  abbrev pub NoneStops : ℕ → Type 0
+  NoneStops n = (k : ℕ) → k < n → T (not (stopsRun (stepAfter b k s m .value .outcome)))
 
-  not-stopped : (n : ℕ) → GoesOn n → T (stopsLast (lastOf b NothingRun n s m)) → ⊥
+  not-stopped : (n : ℕ) → NoneStops n → T (stopsLast (lastOf b NothingRun n s m)) → ⊥
   not-stopped zero g t = t
   not-stopped (suc k) g t = T-not (stopsRun (stepAfter b k s m .value .outcome)) (g k (omega arith)) t
 
@@ -37,18 +37,18 @@ module _ {W : Type 0} (b : Bus W) (s : Cpu) (m : W) where
     it : Repeats b NothingRun budget s m (runFor b budget s m)
     it = run-repeats b budget s m ok
 
-    not-early : GoesOn (runFor b budget s m .steps) → runFor b budget s m .steps < budget → ⊥
+    not-early : NoneStops (runFor b budget s m .steps) → runFor b budget s m .steps < budget → ⊥
     not-early g h = not-stopped (runFor b budget s m .steps) g (subst (λ (o : LastOutcome). T (stopsLast o)) (it .answers) (it .early h))
 
     -- if no step stops it, the run does its whole budget
-    pub whole-budget : GoesOn budget → runFor b budget s m .steps ≡ budget
+    pub whole-budget : NoneStops budget → runFor b budget s m .steps ≡ budget
     whole-budget g =
         let most : runFor b budget s m .steps ≤ budget = it .in-budget in
         let least : runFor b budget s m .steps < budget → ⊥ = λ h. not-early (λ k p. g k (omega arith)) h in
         omega arith
 
     -- if step k is the first that stops it, the run does that step and no other
-    pub stops-after : (k : ℕ) → k < budget → GoesOn k → T (stopsRun (stepAfter b k s m .value .outcome)) → (runFor b budget s m .steps ≡ suc k) × (runFor b budget s m .last ≡ Last (stepAfter b k s m .value .outcome))
+    pub stops-after : (k : ℕ) → k < budget → NoneStops k → T (stopsRun (stepAfter b k s m .value .outcome)) → (runFor b budget s m .steps ≡ suc k) × (runFor b budget s m .last ≡ Last (stepAfter b k s m .value .outcome))
     stops-after k h g t =
         let least : runFor b budget s m .steps ≤ k → ⊥ = λ l. not-early (λ j p. g j (omega arith)) (omega arith) in
         let most : suc k < runFor b budget s m .steps → ⊥ = λ l. T-not (stopsRun (stepAfter b k s m .value .outcome)) (it .not-before k l) t in
@@ -56,7 +56,7 @@ module _ {W : Type 0} (b : Bus W) (s : Cpu) (m : W) where
         (here, it .answers ∙ ap (λ (n : ℕ). lastOf b NothingRun n s m) here)
 
     -- "A step that meets refusal 3 counts", and so do its M-cycles
-    pub refusal-counts : (k : ℕ) → k < budget → GoesOn k → stepAfter b k s m .value .outcome ≡ Refused IllegalOpcode → (runFor b budget s m .steps ≡ suc k) × (runFor b budget s m .last ≡ Last (Refused IllegalOpcode)) × (runFor b budget s m .cycles ≡ spent b (suc k) s m)
+    pub refusal-counts : (k : ℕ) → k < budget → NoneStops k → stepAfter b k s m .value .outcome ≡ Refused IllegalOpcode → (runFor b budget s m .steps ≡ suc k) × (runFor b budget s m .last ≡ Last (Refused IllegalOpcode)) × (runFor b budget s m .cycles ≡ spent b (suc k) s m)
     refusal-counts k h g e =
         let r : (runFor b budget s m .steps ≡ suc k) × (runFor b budget s m .last ≡ Last (stepAfter b k s m .value .outcome)) = stops-after k h g (subst (λ (o : Outcome). T (stopsRun o)) (sym e) tt) in
         (r .0, r .1 ∙ ap Last e, it .costs ∙ ap (λ (n : ℕ). spent b n s m) (r .0))

@@ -44,16 +44,16 @@ pub record Bus (W : Type 0) : Type 0 where
   pub afterTake : W → W
 
 -- What came of it: the answer, the memory, and the accesses in order.
-pub record Ran (W A : Type 0) : Type 0 where
+pub record Performed (W A : Type 0) : Type 0 where
   pub value : A
   pub memory : W
   pub accesses : List Access
 
-abbrev pub logged : {W A : Type 0} → Access → Ran W A → Ran W A
+abbrev pub logged : {W A : Type 0} → Access → Performed W A → Performed W A
 logged a r = record { value = r .value; memory = r .memory; accesses = a ∷ r .accesses }
 
 -- The tree on any kind of memory.
-unfoldable pub runOn : {W A : Type 0} → Bus W → Ask A → W → Ran W A
+unfoldable pub runOn : {W A : Type 0} → Bus W → Ask A → W → Performed W A
 runOn b (answer a) m = record { value = a; memory = m; accesses = [] }
 runOn b (read k a f) m = logged (Read k a) (runOn b (f (b .sees m a)) (b .afterRead k m a))
 runOn b (write k a v p) m = logged (Write k a v) (runOn b p (b .afterWrite k m a v))

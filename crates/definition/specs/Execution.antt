@@ -9,7 +9,8 @@ use Rattle.outcome.specs.declared.Refusal.the-variants.{IllegalOpcode}
 use Rattle.outcome.specs.declared.Outcome.{Outcome}
 use Rattle.outcome.specs.declared.Outcome.the-variants.{Normal, InfiniteLoop, Breakpoint, Refused}
 use Rattle.sm83.specs.Basics.{if_then_else_, cleared, raised, word, highByte, lowByte, next, back, offset}
-use Rattle.definition.specs.Bus.{Kind, Fetch, Operand, Stack, Ask, read, write, idle, peek}
+use Rattle.definition.specs.Bus as bus
+use Rattle.definition.specs.Bus.{Kind, Fetch, Operand, Stack, Ask, read, write}
 use Rattle.outcome.specs.declared.interrupt.NextInterrupt.{NextInterrupt}
 use Rattle.outcome.specs.Interrupts.{isPending}
 use Rattle.sm83.specs.State.{pairAF, pairBC, pairDE, pairHL, writeA, writeF, writeSP, writePC, putBC, putDE, putHL, writeBC, writeDE, writeHL, writeAF, onRegisters, setPC, setIme, setLatch, setHalt, setStopped}
@@ -77,11 +78,11 @@ load c a = λ s k. read c a (λ v. k v s)
 abbrev pub store : {R : Type 0} → Kind → ℕ → ℕ → Does R (Unit {0})
 store c a v = λ s k. write c a v (k tt s)
 
-abbrev pub wait : {R : Type 0} → Does R (Unit {0})
-wait = λ s k. idle (k tt s)
+abbrev pub idle : {R : Type 0} → Does R (Unit {0})
+idle = λ s k. bus.idle (k tt s)
 
-abbrev pub asked : {R : Type 0} → Does R NextInterrupt
-asked = λ s k. peek (λ i. k i s)
+abbrev pub peek : {R : Type 0} → Does R NextInterrupt
+peek = λ s k. bus.peek (λ i. k i s)
 
 -- the byte at PC, and PC past it
 unfoldable pub byteAtPC : {R : Type 0} → Kind → Does R ℕ
@@ -194,18 +195,18 @@ work LDH-A-[n8] = do n ← imm8; v ← load Operand (high n); setReg (writeA v)
 work LDH-[C]-A = do n ← regC; v ← regA; store Operand (high n) v
 work LDH-A-[C] = do n ← regC; v ← load Operand (high n); setReg (writeA v)
 work LD-[n16]-SP = do a ← imm16; w ← regSP; store Operand a (lowByte w); store Operand (next a) (highByte w)
-work LD-SP-HL = do wait; w ← regHL; setReg (writeSP w)
-work LD-HL-SP+e8 = do e ← imm8; wait; w ← regSP; setReg (writeF (offsetFlags w e)); setReg (writeHL (offset w e))
-work ADD-SP-e8 = do e ← imm8; wait; wait; w ← regSP; setReg (writeF (offsetFlags w e)); setReg (writeSP (offset w e))
+work LD-SP-HL = do idle; w ← regHL; setReg (writeSP w)
+work LD-HL-SP+e8 = do e ← imm8; idle; w ← regSP; setReg (writeF (offsetFlags w e)); setReg (writeHL (offset w e))
+work ADD-SP-e8 = do e ← imm8; idle; idle; w ← regSP; setReg (writeF (offsetFlags w e)); setReg (writeSP (offset w e))
 work (ALU-A-r8 op from) = do x ← get8 from; a ← regA; f ← regF; intoA (aluOp op a x f)
 work (ALU-A-n8 op) = do x ← imm8; a ← regA; f ← regF; intoA (aluOp op a x f)
 work (ACC op) = do a ← regA; f ← regF; intoA (accOp op a f)
 work (INC-r8 to) = do x ← get8 to; f ← regF; into8 to (increment x f)
 work (DEC-r8 to) = do x ← get8 to; f ← regF; into8 to (decrement x f)
-work (INC-r16 to) = do wait; w ← reg (get16 to); setReg (put16 to (next w))
-work (DEC-r16 to) = do wait; w ← reg (get16 to); setReg (put16 to (back w))
-work (ADD-HL-r16 from) = do wait; x ← reg (get16 from); w ← regHL; f ← regF; setReg (writeF (wordSumFlags w x f)); setReg (writeHL ((w + x) % 65536))
-work (PUSH-r16 from) = do wait; w ← reg (getStacked from); push w
+work (INC-r16 to) = do idle; w ← reg (get16 to); setReg (put16 to (next w))
+work (DEC-r16 to) = do idle; w ← reg (get16 to); setReg (put16 to (back w))
+work (ADD-HL-r16 from) = do idle; x ← reg (get16 from); w ← regHL; f ← regF; setReg (writeF (wordSumFlags w x f)); setReg (writeHL ((w + x) % 65536))
+work (PUSH-r16 from) = do idle; w ← reg (getStacked from); push w
 work (POP-r16 to) = do w ← pop; setReg (putStacked to w)
 
 -- The instructions after CB.
@@ -230,10 +231,10 @@ goFrom at t = do goTo t; give (if eqb t at then InfiniteLoop else Normal)
 
 -- CALL and RST: an idle access, PC pushed, PC becomes t; RET and RETI: PC popped, an idle access
 abbrev pub call : {R : Type 0} → ℕ → Does R (Unit {0})
-call t = do wait; p ← regPC; push p; goTo t
+call t = do idle; p ← regPC; push p; goTo t
 
 abbrev pub return : {R : Type 0} → Does R (Unit {0})
-return = do t ← pop; wait; goTo t
+return = do t ← pop; idle; goTo t
 
 -- "cc": only where the condition holds
 abbrev pub onlyIf : {R : Type 0} → Cond → Does R (Unit {0}) → Does R Outcome
@@ -241,23 +242,23 @@ onlyIf c p = do f ← regF; if holds c f then (do p; normal) else normal
 
 -- `at` is the address of the jump; PC is past its first byte
 unfoldable pub jump : {R : Type 0} → ℕ → Jump → Does R Outcome
-jump at JP-n16 = do t ← imm16; wait; goFrom at t
+jump at JP-n16 = do t ← imm16; idle; goFrom at t
 jump at JP-HL = do t ← regHL; goFrom at t
-jump at JR-e8 = do e ← imm8; wait; p ← regPC; goFrom at (offset p e)
+jump at JR-e8 = do e ← imm8; idle; p ← regPC; goFrom at (offset p e)
 jump at CALL-n16 = do t ← imm16; call t; normal
 jump at RET = do return; normal
 jump at RETI = do return; change (setIme true); normal
-jump at (JP-cc-n16 c) = do t ← imm16; onlyIf c (do wait; goTo t)
-jump at (JR-cc-e8 c) = do e ← imm8; onlyIf c (do wait; p ← regPC; goTo (offset p e))
+jump at (JP-cc-n16 c) = do t ← imm16; onlyIf c (do idle; goTo t)
+jump at (JR-cc-e8 c) = do e ← imm8; onlyIf c (do idle; p ← regPC; goTo (offset p e))
 jump at (CALL-cc-n16 c) = do t ← imm16; onlyIf c (call t)
-jump at (RET-cc c) = do wait; onlyIf c return
+jump at (RET-cc c) = do idle; onlyIf c return
 jump at (RST-vec v) = do call v; normal
 
 -- "HALT with IME set enters HaltRunInterrupt; with IME clear, HaltBug if one is pending, else HaltNoRunInterrupt"
 abbrev pub halt : {R : Type 0} → Does R (Unit {0})
 halt = do
   s ← state
-  if s .ime then change (setHalt HaltRunInterrupt) else (do i ← asked; change (setHalt (if isPending i then HaltBug else HaltNoRunInterrupt)))
+  if s .ime then change (setHalt HaltRunInterrupt) else (do i ← peek; change (setHalt (if isPending i then HaltBug else HaltNoRunInterrupt)))
 
 -- point 7, from the state after the fetch
 unfoldable pub execute : {R : Type 0} → ℕ → Instruction → Does R Outcome

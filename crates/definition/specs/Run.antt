@@ -8,7 +8,7 @@ use Rattle.outcome.specs.declared.Outcome.the-variants.{Normal, InfiniteLoop, H
 use Rattle.outcome.specs.declared.LastOutcome.{LastOutcome}
 use Rattle.outcome.specs.declared.LastOutcome.the-variants.{NothingRun, Last}
 use Rattle.sm83.specs.Basics.{if_then_else_}
-use Rattle.definition.specs.Bus.{Bus, Ran, mcycles}
+use Rattle.definition.specs.Bus.{Bus, Performed, mcycles}
 use Rattle.definition.specs.Step.{Ended, Admission, accepted, refusedAs, admission, stepOn}
 
 -- "it stops early only after InfiniteLoop, Breakpoint, Stopped or a refusal"
@@ -43,7 +43,7 @@ thenRest c rest = record { last = rest .last; cpu = rest .cpu; memory = rest .me
 unfoldable pub repeated : {W : Type 0} → Bus W → LastOutcome → ℕ → Cpu → W → RunAnswer W
 repeated b o zero s m = record { last = o; cpu = s; memory = m; steps = 0; cycles = 0 }
 repeated {W} b o (suc budget) s m =
-    let r : Ran W Ended = stepOn b s m in
+    let r : Performed W Ended = stepOn b s m in
     let rest : RunAnswer W = repeated b (Last (r .value .outcome)) budget (r .value .cpu) (r .memory) in
     if stopsRun (r .value .outcome)
     then (record { last = Last (r .value .outcome); cpu = r .value .cpu; memory = r .memory; steps = 1; cycles = mcycles (r .accesses) })

@@ -16,10 +16,10 @@ use Rattle.outcome.specs.declared.Refusal.the-variants.{MemoryLength, LowBitsOf
 use Rattle.outcome.specs.declared.Outcome.{Outcome}
 use Rattle.outcome.specs.declared.Outcome.the-variants.{Normal, Halting, RunningHDMA, Stopped, RunningInterrupt, Refused}
 use Rattle.sm83.specs.Basics.{if_then_else_, highByte, lowByte, next, back}
-use Rattle.definition.specs.Bus.{Fetch, Stack, Ask, answer, writeAndTake, Bus, Ran, runOn}
+use Rattle.definition.specs.Bus.{Fetch, Stack, Ask, answer, writeAndTake, Bus, Performed, runOn}
 use Rattle.sm83.specs.State.{pc, sp, flags, setPC, setSP, setIme, setLatch, setHalt}
 use Rattle.opcodes.specs.Instruction.{decode}
-use Rattle.definition.specs.Execution.{Does, _>>=_, _>>_, give, state, change, load, store, wait, asked, execute, executing}
+use Rattle.definition.specs.Execution.{Does, _>>=_, _>>_, give, state, change, load, store, idle, peek, execute, executing}
 
 -- "Halted (HaltRunInterrupt or HaltNoRunInterrupt)"
 abbrev pub isAsleep : HaltMode → Bool
@@ -58,9 +58,9 @@ dispatch = do
   s ← state
   i ← storeAndTake (back (sp s)) (highByte (pc s))
   store Stack (back (back (sp s))) (lowByte (pc s))
-  wait
-  wait
-  wait
+  idle
+  idle
+  idle
   change (setSP (back (back (sp s))))
   change (setPC (entryOf i))
   change (setIme false)
@@ -87,24 +87,24 @@ instruction = do
 unfoldable pub awake : {R : Type 0} → Does R Outcome
 awake = do
   s ← state
-  if s .ime then (do i ← asked; if isPending i then dispatch else instruction) else instruction
+  if s .ime then (do i ← peek; if isPending i then dispatch else instruction) else instruction
 
 -- 3. "Pending: the halt ends in this very step, one more idle access if not DMG, and the step goes on."
 abbrev pub woken : {R : Type 0} → Does R Outcome
 woken = do
   change (setHalt NotHalting)
   s ← state
-  if s .dmg then awake else (do wait; awake)
+  if s .dmg then awake else (do idle; awake)
 
 -- 3, or 4 to 7, from this state. "Halted (HaltRunInterrupt or HaltNoRunInterrupt): one idle access."
-abbrev pub rested : {R : Type 0} → Cpu → Does R Outcome
-rested s = if isAsleep (s .halt) then (do wait; i ← asked; if isPending i then woken else give Halting) else awake
+abbrev pub unlessAsleep : {R : Type 0} → Cpu → Does R Outcome
+unlessAsleep s = if isAsleep (s .halt) then (do idle; i ← peek; if isPending i then woken else give Halting) else awake
 
 -- 1, 2, or 3 to 7
 unfoldable pub step : {R : Type 0} → Does R Outcome
 step = do
   s ← state
-  if s .stopped then (do wait; give Stopped) else (if s .hdma then (do wait; give RunningHDMA) else rested s)
+  if s .stopped then (do idle; give Stopped) else (if s .hdma then (do idle; give RunningHDMA) else unlessAsleep s)
 
 -- How a step ends.
 pub record Ended : Type 0 where
@@ -127,15 +127,15 @@ abbrev pub admission : {W : Type 0} → Bus W → Cpu → W → Admission
 admission b s m = if eqb (b .size m) 65536 then (if eqb (flags s % 16) 0 then accepted else refusedAs LowBitsOfF) else refusedAs MemoryLength
 
 -- 1 and 2 leave "state, bytes and marks as they came, 0 M-cycles"
-abbrev pub unchanged : {W : Type 0} → Refusal → Cpu → W → Ran W Ended
+abbrev pub unchanged : {W : Type 0} → Refusal → Cpu → W → Performed W Ended
 unchanged r s m = record { value = record { outcome = Refused r; cpu = s }; memory = m; accesses = [] }
 
-abbrev pub admitted : {W : Type 0} → Admission → Bus W → Cpu → W → Ran W Ended
+abbrev pub admitted : {W : Type 0} → Admission → Bus W → Cpu → W → Performed W Ended
 admitted accepted b s m = runOn b (stepTree s) m
 admitted (refusedAs r) b s m = unchanged r s m
 
 -- What a step answers, for every state and every memory.
-unfoldable pub stepOn : {W : Type 0} → Bus W → Cpu → W → Ran W Ended
+unfoldable pub stepOn : {W : Type 0} → Bus W → Cpu → W → Performed W Ended
 stepOn b s m = admitted (admission b s m) b s m
 
 -- a proof that says `unfolding stepping` opens the step and all that it executes

@@ -48,7 +48,7 @@ pub writes : (r : Reg8) (v : ℕ) (s : Cpu) (k : Unit {0} → Cpu → Ask Ended)
 writes r v s k h = writes-low r v s k ∙ ap (λ (x : ℕ). put8 r x s k) (kept h)
 
 -- what an operation makes of a byte and F, into F and the operand
-pub written : (op : ℕ → ℕ → Result) (r : Reg8) (v : ℕ) (s : Cpu) (k : Unit {0} → Cpu → Ask Ended) → v < 256 → op v (flags s) .value < 256 →
+pub result-written : (op : ℕ → ℕ → Result) (r : Reg8) (v : ℕ) (s : Cpu) (k : Unit {0} → Cpu → Ask Ended) → v < 256 → op v (flags s) .value < 256 →
     writeOperand (operand8 r) (op (lowByte v) (flags s) .value) (setF (op (lowByte v) (flags s) .flags) s) k ≡ into8 r (op v (flags s)) s k
-written op r v s k small small-result =
+result-written op r v s k small small-result =
     ap (λ (x : ℕ). writeOperand (operand8 r) (op x (flags s) .value) (setF (op x (flags s) .flags) s) k) (kept small) ∙ writes r (op v (flags s) .value) (setF (op v (flags s) .flags) s) k small-result

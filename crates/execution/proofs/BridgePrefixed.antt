@@ -21,7 +21,7 @@ use Rattle.execution.specs.Mirror.{compute, execRow, mirroring}
 use Rattle.ranges.proofs.Ranged.{shift-sound, cleared-byte, raised-byte}
 use Rattle.ranges.proofs.Ranges.{Bytes}
 use Rattle.execution.proofs.Small.{ByteRegisters, kept}
-use Rattle.execution.proofs.Bridge8.{on, reads, writes, written}
+use Rattle.execution.proofs.Bridge8.{on, reads, writes, result-written}
 
 abbrev pub OneOfEight : Prefixed → Type 0
 OneOfEight (SHIFT-r8 o r) = Unit {0}
@@ -42,14 +42,14 @@ decoded-one-of-eight b = by-quarter (b / 64) (shift (b / 8 % 8)) (reg8 (b % 8)) 
 module _ (w : World) (bytes : Bytes (w .bytes)) (at : ℕ) (s : Cpu) (regs : ByteRegisters (s .registers)) (k : Outcome → Cpu → Ask Ended) where
   shift-rest : (o : Shift) (r : Reg8) (v : ℕ) → v < 256 → compute (shiftCode o) at v s (λ w t. writeOperand (operand8 r) (w .value) t (λ _ u. k (w .outcome) u)) ≡ into8 r (shiftOp o v (flags s)) s (λ _ t. k Normal t)
   unfolding mirroring
-  shift-rest RLC r v h = written (shiftOp RLC) r v s _ h (shift-sound RLC v (flags s) h .0)
-  shift-rest RRC r v h = written (shiftOp RRC) r v s _ h (shift-sound RRC v (flags s) h .0)
-  shift-rest RL r v h = written (shiftOp RL) r v s _ h (shift-sound RL v (flags s) h .0)
-  shift-rest RR r v h = written (shiftOp RR) r v s _ h (shift-sound RR v (flags s) h .0)
-  shift-rest SLA r v h = written (shiftOp SLA) r v s _ h (shift-sound SLA v (flags s) h .0)
-  shift-rest SRA r v h = written (shiftOp SRA) r v s _ h (shift-sound SRA v (flags s) h .0)
-  shift-rest SWAP r v h = written (shiftOp SWAP) r v s _ h (shift-sound SWAP v (flags s) h .0)
-  shift-rest SRL r v h = written (shiftOp SRL) r v s _ h (shift-sound SRL v (flags s) h .0)
+  shift-rest RLC r v h = result-written (shiftOp RLC) r v s _ h (shift-sound RLC v (flags s) h .0)
+  shift-rest RRC r v h = result-written (shiftOp RRC) r v s _ h (shift-sound RRC v (flags s) h .0)
+  shift-rest RL r v h = result-written (shiftOp RL) r v s _ h (shift-sound RL v (flags s) h .0)
+  shift-rest RR r v h = result-written (shiftOp RR) r v s _ h (shift-sound RR v (flags s) h .0)
+  shift-rest SLA r v h = result-written (shiftOp SLA) r v s _ h (shift-sound SLA v (flags s) h .0)
+  shift-rest SRA r v h = result-written (shiftOp SRA) r v s _ h (shift-sound SRA v (flags s) h .0)
+  shift-rest SWAP r v h = result-written (shiftOp SWAP) r v s _ h (shift-sound SWAP v (flags s) h .0)
+  shift-rest SRL r v h = result-written (shiftOp SRL) r v s _ h (shift-sound SRL v (flags s) h .0)
 
   pub prefixed-row : (x : Prefixed) → OneOfEight x → leads (execRow (prefixedRow x) at s k) w ≡ leads ((do prefixed x; normal) s k) w
   unfolding executing mirroring

@@ -23,7 +23,7 @@ use Rattle.execution.specs.Mirror.{compute, execRow, mirroring}
 use Rattle.ranges.proofs.Ranged.{alu-sound}
 use Rattle.ranges.proofs.Ranges.{Bytes}
 use Rattle.execution.proofs.Small.{ByteRegisters, kept, signed-low}
-use Rattle.execution.proofs.Bridge8.{on, reads, writes, written}
+use Rattle.execution.proofs.Bridge8.{on, reads, writes, result-written}
 
 -- A pair of registers: read and written as the definition does.
 
@@ -132,8 +132,8 @@ module _ (w : World) (bytes : Bytes (w .bytes)) (at : ℕ) (s : Cpu) (regs : Byt
   work-row (ACC CPL) = refl
   work-row (ACC SCF) = refl
   work-row (ACC CCF) = refl
-  work-row (INC-r8 to) = reads w bytes s regs _ _ (λ v x h. on x (written increment to v s _ h (omega arith))) to
-  work-row (DEC-r8 to) = reads w bytes s regs _ _ (λ v x h. on x (written decrement to v s _ h (omega arith))) to
+  work-row (INC-r8 to) = reads w bytes s regs _ _ (λ v x h. on x (result-written increment to v s _ h (omega arith))) to
+  work-row (DEC-r8 to) = reads w bytes s regs _ _ (λ v x h. on x (result-written decrement to v s _ h (omega arith))) to
   work-row (INC-r16 to) = on w (reads16 to s _) ∙ on (afterIdle w) (writes16 to _ _ _)
   work-row (DEC-r16 to) = on w (reads16 to s _) ∙ on (afterIdle w) (writes16 to _ _ _)
   work-row (ADD-HL-r16 from) = on w (reads16 from s _)

@@ -2,4 +2,4 @@
 pub mod Runnable
 pub mod Mirror
 pub mod Worked
-pub mod Waits
+pub mod Unless

@@ -16,7 +16,7 @@ use Rattle.sm83.specs.State.{pairAF, pairBC, pairDE, pairHL, writeA, writeF, wr
 use Rattle.opcodes.specs.Arithmetic.{Result, aluOp, accOp, shiftOp, increment, decrement, bitTest, wordSumFlags, offsetFlags}
 use Rattle.opcodes.specs.Instruction.{Alu, ADD, ADC, SUB, SBC, AND, XOR, OR, CP, Acc, RLCA, RRCA, RLA, RRA, DAA, CPL, SCF, CCF, Shift, RLC, RRC, RL, RR, SLA, SRA, SWAP, SRL}
 use Rattle.operands.specs.Operands.{readOperand, writeOperand}
-use Rattle.definition.specs.Execution.{Does, _>>=_, _>>_, give, nothing, change, reg, setReg, regA, regC, regF, regSP, regPC, regHL, load, store, wait, imm8, imm16, push, pop, high, halt, goTo, call, return}
+use Rattle.definition.specs.Execution.{Does, _>>=_, _>>_, give, nothing, change, reg, setReg, regA, regC, regF, regSP, regPC, regHL, load, store, idle, imm8, imm16, push, pop, high, halt, goTo, call, return}
 
 -- what the match of `exec_instruction` makes: the value to be written, and the outcome
 pub record Made : Type 0 where
@@ -44,26 +44,26 @@ shiftMade o v = do f ← regF; result (shiftOp o (lowByte v) f)
 
 -- words; SP and a signed byte that has been extended
 unfoldable pub loadSPMade : {R : Type 0} → Does R Made
-loadSPMade = do wait; w ← regHL; setReg (writeSP w); made 0
+loadSPMade = do idle; w ← regHL; setReg (writeSP w); made 0
 
 abbrev pub offsetMade : {R : Type 0} → ℕ → Does R Made
 offsetMade v = do w ← regSP; setReg (writeF (offsetFlags w (lowByte v))); made ((w + v) % 65536)
 
 unfoldable pub loadHLMade : {R : Type 0} → ℕ → Does R Made
-loadHLMade v = do wait; offsetMade v
+loadHLMade v = do idle; offsetMade v
 
 unfoldable pub addSPMade : {R : Type 0} → ℕ → Does R Made
-addSPMade v = do wait; wait; offsetMade v
+addSPMade v = do idle; idle; offsetMade v
 
 unfoldable pub addHLMade : {R : Type 0} → ℕ → Does R Made
-addHLMade v = do wait; w ← regHL; f ← regF; setReg (writeF (wordSumFlags w v f)); made ((w + v) % 65536)
+addHLMade v = do idle; w ← regHL; f ← regF; setReg (writeF (wordSumFlags w v f)); made ((w + v) % 65536)
 
 abbrev pub slowlyMade : {R : Type 0} → ℕ → Does R Made
-slowlyMade w = do wait; made w
+slowlyMade w = do idle; made w
 
 -- the stack
 abbrev pub pushMade : {R : Type 0} → ℕ → Does R Made
-pushMade v = do wait; push v; made 0
+pushMade v = do idle; push v; made 0
 
 abbrev pub popMade : {R : Type 0} → Does R Made
 popMade = do w ← pop; made w
@@ -76,10 +76,10 @@ unfoldable pub onlyIfMade : {R : Type 0} → Condition → Does R Made → Does 
 onlyIfMade c p = do f ← regF; if checkCond c f then p else made 0
 
 abbrev pub jpMade : {R : Type 0} → Condition → ℕ → ℕ → Does R Made
-jpMade c at v = onlyIfMade c (do wait; jumpMade at (isUnconditional c) v)
+jpMade c at v = onlyIfMade c (do idle; jumpMade at (isUnconditional c) v)
 
 abbrev pub jrMade : {R : Type 0} → Condition → ℕ → ℕ → Does R Made
-jrMade c at v = onlyIfMade c (do wait; p ← regPC; jumpMade at (isUnconditional c) ((p + v) % 65536))
+jrMade c at v = onlyIfMade c (do idle; p ← regPC; jumpMade at (isUnconditional c) ((p + v) % 65536))
 
 abbrev pub callMade : {R : Type 0} → ℕ → Does R Made
 callMade t = do call t; made 0
@@ -92,7 +92,7 @@ retMade = do return; made 0
 
 -- a return that is not sure waits first
 abbrev pub retIfMade : {R : Type 0} → Condition → Does R Made
-retIfMade c = do if isUnconditional c then nothing else wait; onlyIfMade c retMade
+retIfMade c = do if isUnconditional c then nothing else idle; onlyIfMade c retMade
 
 abbrev pub retiMade : {R : Type 0} → Does R Made
 retiMade = do return; change (setIme true); made 0

@@ -18,7 +18,7 @@ use crate::jumps::reti;
 use crate::results::breakpoint;
 use crate::results::di;
 use crate::results::ei;
-use crate::results::plain;
+use crate::results::normal;
 use crate::results::stop;
 use crate::results::with_a;
 use crate::results::with_flags;
@@ -69,7 +69,7 @@ fn never_executed(cpu: Cpu, port: Port) -> Worked
     requires { ⌜ ⊥ ⌝ }
     ensures { λ r. ⌜ ⊥ ⌝ }
 {
-    plain(cpu, port, 0)
+    normal(cpu, port, 0)
 }
 
 // The match in the order of the Rust, in three parts: up to OR, from JP to RRA, and what follows a prefix.
@@ -82,9 +82,9 @@ pub fn compute(cpu: Cpu, port: Port, opcode: Opcode, src: u16, at: Addr, mem: &m
     let f = regs.f;
     let x = (src % 256) as u8;
     match opcode {
-        Opcode::Nop => plain(cpu, port, 0),
+        Opcode::Nop => normal(cpu, port, 0),
         Opcode::Stop => stop(cpu, port),
-        Opcode::Ld => plain(cpu, port, src),
+        Opcode::Ld => normal(cpu, port, src),
         Opcode::LdSPHL => ld_sp_hl(cpu, port, mem),
         Opcode::LdHLSPSigned8 => ld_hl_sp(cpu, port, src, mem),
         Opcode::LdBB => breakpoint(cpu, port),
@@ -170,8 +170,8 @@ fn compute_from_rlc(
         Opcode::Swap => with_result(cpu, port, swap(x)),
         Opcode::Srl => with_result(cpu, port, srl(x)),
         Opcode::Bit(n) => with_flags(cpu, port, bit(n, x, f), 0),
-        Opcode::Res(n) => plain(cpu, port, res(n, x) as u16),
-        Opcode::Set(n) => plain(cpu, port, set(n, x) as u16),
+        Opcode::Res(n) => normal(cpu, port, res(n, x) as u16),
+        Opcode::Set(n) => normal(cpu, port, set(n, x) as u16),
         Opcode::Illegal => illegal(cpu, port, at),
         Opcode::Halt => halt(cpu, port, mem),
         _ => never_executed(cpu, port),

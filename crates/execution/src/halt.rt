@@ -5,7 +5,7 @@ ghost use Rattle.bus.specs.Leads.{Runs};
 ghost use Rattle.execution.specs.Mirror.{haltMade};
 ghost use Rattle.execution.specs.Worked.{madeBy};
 use crate::Worked;
-use crate::results::plain;
+use crate::results::normal;
 use bus::Port;
 use bus::interrupts::peek_next_interrupt;
 use sm83::Cpu;
@@ -18,14 +18,14 @@ pub fn halt(cpu: Cpu, port: Port, mem: &mut [u8]) -> Worked
 {
     let ime = cpu.ime;
     if ime {
-        plain(with_halt(cpu, HaltMode::HaltRunInterrupt), port, 0)
+        normal(with_halt(cpu, HaltMode::HaltRunInterrupt), port, 0)
     } else {
         let next = peek_next_interrupt(mem);
         let some = next.is_pending();
         if some {
-            plain(with_halt(cpu, HaltMode::HaltBug), port, 0)
+            normal(with_halt(cpu, HaltMode::HaltBug), port, 0)
         } else {
-            plain(with_halt(cpu, HaltMode::HaltNoRunInterrupt), port, 0)
+            normal(with_halt(cpu, HaltMode::HaltNoRunInterrupt), port, 0)
         }
     }
 }

@@ -9,9 +9,9 @@ ghost use Rattle.sm83.specs.State.{setPC};
 ghost use Rattle.bus.specs.Leads.{Runs};
 ghost use Rattle.execution.specs.Mirror.{jpMade, jrMade, callMade, callIfMade, retMade, retIfMade, retiMade};
 ghost use Rattle.execution.specs.Worked.{madeBy, worked};
-ghost use Rattle.execution.specs.Waits.{IdlesUnless};
+ghost use Rattle.execution.specs.Unless.{IdlesUnless};
 use crate::Worked;
-use crate::results::plain;
+use crate::results::normal;
 use bus::Port;
 use bus::idle;
 use instruction::Condition;
@@ -41,7 +41,7 @@ pub fn jump(cpu: Cpu, port: Port, to: u16, at: Addr, sure: bool) -> Worked
             outcome: Outcome::InfiniteLoop,
         }
     } else {
-        plain(s, port, 0)
+        normal(s, port, 0)
     }
 }
 
@@ -55,7 +55,7 @@ pub fn jp(cpu: Cpu, port: Port, cond: Condition, to: u16, at: Addr, mem: &mut [u
         let p = idle(port, mem);
         jump(cpu, p, to, at, is_unconditional(cond))
     } else {
-        plain(cpu, port, 0)
+        normal(cpu, port, 0)
     }
 }
 
@@ -71,7 +71,7 @@ pub fn jr(cpu: Cpu, port: Port, cond: Condition, by: u16, at: Addr, mem: &mut [u
         let to = pc.wrapping_add(by);
         jump(cpu, p, to.0, at, is_unconditional(cond))
     } else {
-        plain(cpu, port, 0)
+        normal(cpu, port, 0)
     }
 }
 
@@ -88,7 +88,7 @@ pub fn call_to(cpu: Cpu, port: Port, to: u16, mem: &mut [u8]) -> Worked
     let mut regs = s.registers;
     let pc = Addr(to);
     regs.pc = pc;
-    plain(with_registers(s, regs), q, 0)
+    normal(with_registers(s, regs), q, 0)
 }
 
 pub fn call(cpu: Cpu, port: Port, cond: Condition, to: u16, mem: &mut [u8]) -> Worked
@@ -100,7 +100,7 @@ pub fn call(cpu: Cpu, port: Port, cond: Condition, to: u16, mem: &mut [u8]) -> W
     if go {
         call_to(cpu, port, to, mem)
     } else {
-        plain(cpu, port, 0)
+        normal(cpu, port, 0)
     }
 }
 
@@ -115,7 +115,7 @@ fn ret_now(cpu: Cpu, port: Port, mem: &mut [u8]) -> Worked
     let mut regs = s.registers;
     let pc = Addr(x.value);
     regs.pc = pc;
-    plain(with_registers(s, regs), q, 0)
+    normal(with_registers(s, regs), q, 0)
 }
 
 // A return that is not sure waits before its condition is looked at.
@@ -136,7 +136,7 @@ pub fn ret(cpu: Cpu, port: Port, cond: Condition, mem: &mut [u8]) -> Worked
     if go {
         ret_now(cpu, p, mem)
     } else {
-        plain(cpu, p, 0)
+        normal(cpu, p, 0)
     }
 }
 
@@ -153,5 +153,5 @@ pub fn reti(cpu: Cpu, port: Port, mem: &mut [u8]) -> Worked
     regs.pc = pc;
     s.registers = regs;
     s.ime = true;
-    plain(s, q, 0)
+    normal(s, q, 0)
 }

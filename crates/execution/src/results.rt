@@ -11,7 +11,7 @@ use outcome::Outcome;
 use sm83::Cpu;
 use sm83::state::with_registers;
 
-pub fn plain(cpu: Cpu, port: Port, value: u16) -> Worked
+pub fn normal(cpu: Cpu, port: Port, value: u16) -> Worked
     ensures { λ r. ⌜ r ≡ worked cpu port value Normal ⌝ }
 {
     Worked {
@@ -28,7 +28,7 @@ pub fn with_flags(cpu: Cpu, port: Port, flags: u8, value: u16) -> Worked
     let mut regs = cpu.registers;
     regs.f = flags;
     let s = with_registers(cpu, regs);
-    plain(s, port, value)
+    normal(s, port, value)
 }
 
 pub fn with_result(cpu: Cpu, port: Port, x: Computed) -> Worked
@@ -44,7 +44,7 @@ pub fn with_a(cpu: Cpu, port: Port, x: Computed) -> Worked
     regs.a = x.value;
     regs.f = x.flags;
     let s = with_registers(cpu, regs);
-    plain(s, port, 0)
+    normal(s, port, 0)
 }
 
 // STOP: the bus is stopped, and every step after it answers so.
@@ -53,7 +53,7 @@ pub fn stop(cpu: Cpu, port: Port) -> Worked
 {
     let mut s = cpu;
     s.stopped = true;
-    plain(s, port, 0)
+    normal(s, port, 0)
 }
 
 pub fn di(cpu: Cpu, port: Port) -> Worked
@@ -61,7 +61,7 @@ pub fn di(cpu: Cpu, port: Port) -> Worked
 {
     let mut s = cpu;
     s.ime = false;
-    plain(s, port, 0)
+    normal(s, port, 0)
 }
 
 // The latch opens IME before the next instruction.
@@ -70,7 +70,7 @@ pub fn ei(cpu: Cpu, port: Port) -> Worked
 {
     let mut s = cpu;
     s.latch = true;
-    plain(s, port, 0)
+    normal(s, port, 0)
 }
 
 // LD B,B: a breakpoint, with the registers as they are.

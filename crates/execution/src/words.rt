@@ -5,7 +5,7 @@ ghost use Rattle.bus.specs.Leads.{Runs};
 ghost use Rattle.execution.specs.Mirror.{loadSPMade, loadHLMade, addSPMade, addHLMade, slowlyMade, pushMade, popMade};
 ghost use Rattle.execution.specs.Worked.{madeBy, offsetBy};
 use crate::Worked;
-use crate::results::plain;
+use crate::results::normal;
 use crate::results::with_flags;
 use arithmetic::words::add_signed8;
 use arithmetic::words::add16;
@@ -25,7 +25,7 @@ pub fn ld_sp_hl(cpu: Cpu, port: Port, mem: &mut [u8]) -> Worked
     let mut regs = cpu.registers;
     let hl = Addr(regs.reg_hl_read());
     regs.sp = hl;
-    plain(with_registers(cpu, regs), p, 0)
+    normal(with_registers(cpu, regs), p, 0)
 }
 
 // SP and a signed byte, with their flags.
@@ -70,7 +70,7 @@ pub fn slowly(cpu: Cpu, port: Port, word: Addr, mem: &mut [u8]) -> Worked
     ensures { λ r. ⌜ Runs (slowlyMade (word .0)) cpu port (now (mem .entry)) (madeBy r) (r .cpu) (r .port) (now (mem .exit)) ⌝ }
 {
     let p = idle(port, mem);
-    plain(cpu, p, word.0)
+    normal(cpu, p, word.0)
 }
 
 pub fn push_word(cpu: Cpu, port: Port, value: u16, mem: &mut [u8]) -> Worked
@@ -81,7 +81,7 @@ pub fn push_word(cpu: Cpu, port: Port, value: u16, mem: &mut [u8]) -> Worked
     let x = stack_push(cpu, p, value, mem);
     let s = x.cpu;
     let q = x.port;
-    plain(s, q, 0)
+    normal(s, q, 0)
 }
 
 pub fn pop_word(cpu: Cpu, port: Port, mem: &mut [u8]) -> Worked
@@ -91,5 +91,5 @@ pub fn pop_word(cpu: Cpu, port: Port, mem: &mut [u8]) -> Worked
     let x = stack_pop(cpu, port, mem);
     let s = x.cpu;
     let p = x.port;
-    plain(s, p, x.value)
+    normal(s, p, x.value)
 }

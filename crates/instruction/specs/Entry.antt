@@ -48,13 +48,13 @@ rowAt n b =
     }
 
 -- tables whose entry at each byte stands for the instruction that the definition decodes from it
-unfoldable pub Plain : List ℕ → Type 0
-Plain t = (b : ℕ) → b < 256 → rowAt (getD t b 0) b ≡ rowOf (decode b)
+unfoldable pub Unprefixed : List ℕ → Type 0
+Unprefixed t = (b : ℕ) → b < 256 → rowAt (getD t b 0) b ≡ rowOf (decode b)
 
 unfoldable pub Prefixed : List ℕ → Type 0
 Prefixed t = (b : ℕ) → b < 256 → rowAt (getD t b 0) b ≡ prefixedRow (decodeCB b)
 
 -- the two that a step is lent
 pub record Tables (t u : List ℕ) : Type 0 where
-  pub plain : Plain t
+  pub plain : Unprefixed t
   pub prefixed : Prefixed u

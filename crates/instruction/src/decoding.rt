@@ -2,7 +2,7 @@
 ghost use mathlib.Core.Path.{_≡_};
 ghost use Rattle.opcodes.specs.Instruction.{decode, decodeCB};
 ghost use Rattle.instruction.specs.Row.{rowOf, prefixedRow};
-ghost use Rattle.instruction.specs.Entry.{rowAt, Plain, Prefixed};
+ghost use Rattle.instruction.specs.Entry.{rowAt, Unprefixed, Prefixed};
 use crate::Instruction;
 use crate::conditions::condition_of;
 use crate::numbered::opcode_of;
@@ -10,7 +10,7 @@ use crate::operand::operand_of;
 
 impl Instruction {
     pub fn from_byte(table: &[u32; 256], byte: u8) -> Instruction
-        requires { ⌜ Plain (now table) ⌝ }
+        requires { ⌜ Unprefixed (now table) ⌝ }
         ensures { λ r. ⌜ r ≡ rowOf (decode byte) ⌝ }
     {
         Instruction::from_entry(table[byte as usize], byte)

@@ -32,12 +32,12 @@ abbrev pub count : ℕ → MCycles
 count n = record { 0 = n }
 
 -- a run's answer, written into the blocks
-abbrev pub written : RunAnswer (List ℕ) → List ℕ → List ℕ → Left
-written r state answer = left (lastNumber (r .last)) (stateBytes (r .cpu) state) (r .memory) (answerBytes (r .last) (r .steps) (count (r .cycles)) answer)
+abbrev pub intoBlocks : RunAnswer (List ℕ) → List ℕ → List ℕ → Left
+intoBlocks r state answer = left (lastNumber (r .last)) (stateBytes (r .cpu) state) (r .memory) (answerBytes (r .last) (r .steps) (count (r .cycles)) answer)
 
 abbrev pub runFrom : StateRead → ℕ → List ℕ → List ℕ → List ℕ → Left
 runFrom Malformed budget state memory answer = left malformed state memory answer
-runFrom (State cpu) budget state memory answer = written (runFor plain budget cpu memory) state answer
+runFrom (State cpu) budget state memory answer = intoBlocks (runFor plain budget cpu memory) state answer
 
 unfoldable pub runBlocks : ℕ → List ℕ → List ℕ → List ℕ → Left
 runBlocks budget state memory answer = if eqb (length answer) 24 then runFrom (stateOf state) budget state memory answer else left malformed state memory answer

@@ -1,3 +1,3 @@
 -- TODO: laws.
 pub mod Drawing
-pub mod Passed
+pub mod AsMarked

@@ -7,7 +7,7 @@ use commandline::grammar::Part;
 use commandline::grammar::Power;
 use commandline::line::Line;
 use outcome::LastOutcome;
-use run::ending::stopped;
+use run::ending::stops_last;
 use sm83::Addr;
 use sm83::Cpu;
 
@@ -49,7 +49,7 @@ pub fn over(far: Far) -> bool
     ensures { λ r. ⌜ r ≡ stopsLast (far .last) ⌝ }
 {
     let last = far.last;
-    stopped(last)
+    stops_last(last)
 }
 
 // How many steps were asked for.

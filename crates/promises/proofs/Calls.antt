@@ -11,7 +11,7 @@ use Rattle.definition.specs.Step.{Ended, stepOn}
 use Rattle.definition.specs.Run.{RunAnswer, runFor}
 use Rattle.routine.specs.Screen.{screen}
 use Rattle.run.specs.declared.Ran.{Ran}
-use Rattle.run.specs.Ran.{answer}
+use Rattle.run.specs.Ran.{runAnswer}
 use Rattle.run.specs.declared.Stepped.{Stepped}
 use Rattle.screen.proofs.screen.Reads as the-screen
 use Rattle.run.proofs.step.Reads as the-step
@@ -101,7 +101,7 @@ module _ (c : RunCall) where
 
   -- its answer with the memory that it leaves
   abbrev pub answered : RunAnswer (List ℕ)
-  answered = answer (c .ran) (now (c .left .1 .0))
+  answered = runAnswer (c .ran) (now (c .left .1 .0))
 
   pub run-answers : answered ≡ runFor plain budgetOf stateRun memoryRun
   run-answers = c .conforms

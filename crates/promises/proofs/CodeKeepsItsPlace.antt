@@ -7,7 +7,7 @@ use lib.Dec.{T}
 use lib.ListN.{length}
 use Rattle.sm83.specs.declared.Cpu.{Cpu}
 use Rattle.routine.specs.declared.Verdict.the-variants.{Passes}
-use Rattle.definition.specs.Bus.{Ran, plain}
+use Rattle.definition.specs.Bus.{Performed, plain}
 use Rattle.sm83.specs.State.{pc}
 use Rattle.definition.specs.Step.{Ended, stepOn}
 use Rattle.definition.specs.Run.{RunAnswer, runFor}
@@ -123,7 +123,7 @@ module _ (call : ScreenCall) (passes : call .verdict ≡ Passes) (address : last
     abbrev pub within : ℕ → ℕ → Cpu
     within k = stateAt plain (memoryAt plain (start k) (memory k)) (start k)
 
-    abbrev pub stepWithin : ℕ → ℕ → Ran (List ℕ) Ended
+    abbrev pub stepWithin : ℕ → ℕ → Performed (List ℕ) Ended
     stepWithin k = stepAt plain (memoryAt plain (start k) (memory k)) (start k)
 
     same-starts : (k : ℕ) → start k ≡ runStateAt plain budget memory (start 0) k

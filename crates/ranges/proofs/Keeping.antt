@@ -6,11 +6,12 @@ use Rattle.sm83.specs.declared.CpuRegisters.{CpuRegisters}
 use Rattle.sm83.specs.declared.Cpu.{Cpu}
 use Rattle.outcome.specs.declared.interrupt.NextInterrupt.{NextInterrupt}
 use Rattle.sm83.specs.Basics.{if_then_else_, word, highByte, lowByte, next, back}
-use Rattle.definition.specs.Bus.{Kind, Operand, Stack, Ask, answer, read, write, idle, peek, writeAndTake}
+use Rattle.definition.specs.Bus as bus
+use Rattle.definition.specs.Bus.{Kind, Operand, Stack, Ask, answer, read, write, writeAndTake}
 use Rattle.sm83.specs.State.{pairAF, pairBC, pairDE, pairHL, writeA, writeF, writeSP, writePC, putBC, putDE, putHL, writeBC, writeDE, writeHL, writeAF, onRegisters}
 use Rattle.opcodes.specs.Arithmetic.{Result}
 use Rattle.opcodes.specs.Instruction.{Reg8, rB, rC, rD, rE, rH, rL, [HL], rA, Reg16, rBC, rDE, rHL, rSP, Stacked, pBC, pDE, pHL, pAF, Pointer, [BC], [DE], [HL+], [HL-]}
-use Rattle.definition.specs.Execution.{Does, _>>=_, _>>_, give, state, change, reg, setReg, load, store, wait, asked, byteAtPC, imm8, imm16, get8, put8, get16, put16, getStacked, putStacked, pointed, moved, push, pop, intoA, into8}
+use Rattle.definition.specs.Execution.{Does, _>>=_, _>>_, give, state, change, reg, setReg, load, store, idle, peek, byteAtPC, imm8, imm16, get8, put8, get16, put16, getStacked, putStacked, pointed, moved, push, pop, intoA, into8}
 use Rattle.ranges.proofs.Ranged.{Ranged, Flags, Sound, ranged-a, ranged-f, ranged-sp, ranged-pc, ranged-bc, ranged-de, ranged-hl}
 
 abbrev pub Byte : ℕ → Type 0
@@ -27,8 +28,8 @@ abbrev pub Safe : {R : Type 0} → (R → Type 0) → Ask R → Type 0
 Safe Q (answer e) = Q e
 Safe Q (read k a f) = Place a × ((v : ℕ) → Byte v → Safe Q (f v))
 Safe Q (write k a v p) = Place a × Byte v × Safe Q p
-Safe Q (idle p) = Safe Q p
-Safe Q (peek f) = (i : NextInterrupt) → Safe Q (f i)
+Safe Q (bus.idle p) = Safe Q p
+Safe Q (bus.peek f) = (i : NextInterrupt) → Safe Q (f i)
 Safe Q (writeAndTake a v f) = Place a × Byte v × ((i : NextInterrupt) → Safe Q (f i))
 
 -- from registers in range, a value as P says and registers in range go on
@@ -64,10 +65,10 @@ module _ {R : Type 0} {Q : R → Type 0} where
   pub stored : (c : Kind) (a v : ℕ) → Place a → Byte v → Keeps Q Any (store c a v)
   stored c a v p q = record { from = λ s k r h. (p, q, h tt s tt r) }
 
-  pub waited : Keeps Q Any wait
-  waited = record { from = λ s k r h. h tt s tt r }
+  pub idled : Keeps Q Any idle
+  idled = record { from = λ s k r h. h tt s tt r }
 
-  pub peeked : Keeps Q Any asked
+  pub peeked : Keeps Q Any peek
   peeked = record { from = λ s k r h i. h i s tt r }
 
   pub either-keeps : {A : Type 0} {P : A → Type 0} {p q : Does R A} (t : Bool) → Keeps Q P p → Keeps Q P q → Keeps Q P (if t then p else q)

@@ -19,7 +19,7 @@ use Rattle.opcodes.specs.Instruction.{Instruction, does, goes, CB-prefix, HALT,
 use Rattle.definition.specs.Execution.{Does, high, work, prefixed, normal, goFrom, call, return, onlyIf, jump, halt, execute}
 use Rattle.opcodes.proofs.Tested.{at}
 use Rattle.ranges.proofs.Ranged.{Ranged, Flags, flags-sound, alu-sound, shift-sound, acc-sound, increment-sound, decrement-sound, cleared-byte, raised-byte}
-use Rattle.ranges.proofs.Keeping.{Byte, Place, Any, Keeps, _⟫=_, _⟫_, given, said, changed, registers-say, loaded, stored, waited, peeked, either-keeps, set-a, set-f, set-sp, set-pc, set-hl, a-said, f-said, sp-said, pc-said, hl-said, byte-keeps, imm8-keeps, imm16-keeps, get8-keeps, put8-keeps, get16-keeps, put16-keeps, getStacked-keeps, putStacked-keeps, pointed-keeps, moved-keeps, push-keeps, pop-keeps, intoA-keeps, into8-keeps}
+use Rattle.ranges.proofs.Keeping.{Byte, Place, Any, Keeps, _⟫=_, _⟫_, given, said, changed, registers-say, loaded, stored, idled, peeked, either-keeps, set-a, set-f, set-sp, set-pc, set-hl, a-said, f-said, sp-said, pc-said, hl-said, byte-keeps, imm8-keeps, imm16-keeps, get8-keeps, put8-keeps, get16-keeps, put16-keeps, getStacked-keeps, putStacked-keeps, pointed-keeps, moved-keeps, push-keeps, pop-keeps, intoA-keeps, into8-keeps}
 
 offset-flags : (w e : ℕ) → Flags (offsetFlags w e)
 offset-flags w e = flags-sound false false (leb 16 (w % 16 + e % 16)) (leb 256 (w % 256 + e))
@@ -99,21 +99,21 @@ module _ {R : Type 0} {Q : R → Type 0} where
   work-keeps LDH-A-[C] = registers-say (λ r. r .c) (λ r g. g .in-c) ⟫= λ n hn. loaded Operand (high n) (omega arith) ⟫= λ v hv. set-a v hv
   work-keeps LD-[n16]-SP =
       imm16-keeps ⟫= λ a ha. sp-said ⟫= λ w hw. stored Operand a (lowByte w) ha (omega arith) ⟫ stored Operand (next a) (highByte w) (omega arith) (omega arith)
-  work-keeps LD-SP-HL = waited ⟫ hl-said ⟫= λ w hw. set-sp w hw
+  work-keeps LD-SP-HL = idled ⟫ hl-said ⟫= λ w hw. set-sp w hw
   work-keeps LD-HL-SP+e8 =
-      imm8-keeps ⟫= λ e he. waited ⟫ sp-said ⟫= λ w hw. set-f (offsetFlags w e) (offset-flags w e) ⟫ set-hl (offset w e) (omega arith)
+      imm8-keeps ⟫= λ e he. idled ⟫ sp-said ⟫= λ w hw. set-f (offsetFlags w e) (offset-flags w e) ⟫ set-hl (offset w e) (omega arith)
   work-keeps ADD-SP-e8 =
-      imm8-keeps ⟫= λ e he. waited ⟫ waited ⟫ sp-said ⟫= λ w hw. set-f (offsetFlags w e) (offset-flags w e) ⟫ set-sp (offset w e) (omega arith)
+      imm8-keeps ⟫= λ e he. idled ⟫ idled ⟫ sp-said ⟫= λ w hw. set-f (offsetFlags w e) (offset-flags w e) ⟫ set-sp (offset w e) (omega arith)
   work-keeps (ALU-A-r8 op from) = get8-keeps from ⟫= λ x hx. a-said ⟫= λ a ha. f-said ⟫= λ f hf. intoA-keeps (aluOp op a x f) (alu-sound op a x f ha hx)
   work-keeps (ALU-A-n8 op) = imm8-keeps ⟫= λ x hx. a-said ⟫= λ a ha. f-said ⟫= λ f hf. intoA-keeps (aluOp op a x f) (alu-sound op a x f ha hx)
   work-keeps (ACC op) = a-said ⟫= λ a ha. f-said ⟫= λ f hf. intoA-keeps (accOp op a f) (acc-sound op a f ha)
   work-keeps (INC-r8 to) = get8-keeps to ⟫= λ x hx. f-said ⟫= λ f hf. into8-keeps to (increment x f) (increment-sound x f)
   work-keeps (DEC-r8 to) = get8-keeps to ⟫= λ x hx. f-said ⟫= λ f hf. into8-keeps to (decrement x f) (decrement-sound x f)
-  work-keeps (INC-r16 to) = waited ⟫ get16-keeps to ⟫= λ w hw. put16-keeps to (next w) (omega arith)
-  work-keeps (DEC-r16 to) = waited ⟫ get16-keeps to ⟫= λ w hw. put16-keeps to (back w) (omega arith)
+  work-keeps (INC-r16 to) = idled ⟫ get16-keeps to ⟫= λ w hw. put16-keeps to (next w) (omega arith)
+  work-keeps (DEC-r16 to) = idled ⟫ get16-keeps to ⟫= λ w hw. put16-keeps to (back w) (omega arith)
   work-keeps (ADD-HL-r16 from) =
-      waited ⟫ get16-keeps from ⟫= λ x hx. hl-said ⟫= λ w hw. f-said ⟫= λ f hf. set-f (wordSumFlags w x f) (word-flags w x f) ⟫ set-hl ((w + x) % 65536) (omega arith)
-  work-keeps (PUSH-r16 from) = waited ⟫ getStacked-keeps from ⟫= λ w hw. push-keeps w hw
+      idled ⟫ get16-keeps from ⟫= λ x hx. hl-said ⟫= λ w hw. f-said ⟫= λ f hf. set-f (wordSumFlags w x f) (word-flags w x f) ⟫ set-hl ((w + x) % 65536) (omega arith)
+  work-keeps (PUSH-r16 from) = idled ⟫ getStacked-keeps from ⟫= λ w hw. push-keeps w hw
   work-keeps (POP-r16 to) = pop-keeps ⟫= λ w hw. putStacked-keeps to w hw
 
   prefixed-keeps : (p : Prefixed) → T (bitInByte p) → Keeps Q Any (prefixed p)
@@ -130,26 +130,26 @@ module _ {R : Type 0} {Q : R → Type 0} where
   goFrom-keeps at t p = set-pc t p ⟫ given (if eqb t at then InfiniteLoop else Normal) (loop-or-not (eqb t at))
 
   call-keeps : (t : ℕ) → Place t → Keeps Q Any (call t)
-  call-keeps t ht = waited ⟫ pc-said ⟫= λ p hp. push-keeps p hp ⟫ set-pc t ht
+  call-keeps t ht = idled ⟫ pc-said ⟫= λ p hp. push-keeps p hp ⟫ set-pc t ht
 
   return-keeps : Keeps Q Any return
-  return-keeps = pop-keeps ⟫= λ t ht. waited ⟫ set-pc t ht
+  return-keeps = pop-keeps ⟫= λ t ht. idled ⟫ set-pc t ht
 
   onlyIf-keeps : {p : Does R (Unit {0})} (c : Cond) → Keeps Q Any p → Keeps Q OutcomeRanged (onlyIf c p)
   onlyIf-keeps c hp = f-said ⟫= λ f hf. either-keeps (holds c f) (hp ⟫ normally) normally
 
   jump-keeps : (at : ℕ) (j : Jump) → T (jumpInRange j) → Keeps Q OutcomeRanged (jump at j)
   unfolding jump
-  jump-keeps at JP-n16 h = imm16-keeps ⟫= λ t ht. waited ⟫ goFrom-keeps at t ht
+  jump-keeps at JP-n16 h = imm16-keeps ⟫= λ t ht. idled ⟫ goFrom-keeps at t ht
   jump-keeps at JP-HL h = hl-said ⟫= λ t ht. goFrom-keeps at t ht
-  jump-keeps at JR-e8 h = imm8-keeps ⟫= λ e he. waited ⟫ pc-said ⟫= λ p hp. goFrom-keeps at (offset p e) (omega arith)
+  jump-keeps at JR-e8 h = imm8-keeps ⟫= λ e he. idled ⟫ pc-said ⟫= λ p hp. goFrom-keeps at (offset p e) (omega arith)
   jump-keeps at CALL-n16 h = imm16-keeps ⟫= λ t ht. call-keeps t ht ⟫ normally
   jump-keeps at RET h = return-keeps ⟫ normally
   jump-keeps at RETI h = return-keeps ⟫ changed (setIme true) (λ s r. r) ⟫ normally
-  jump-keeps at (JP-cc-n16 c) h = imm16-keeps ⟫= λ t ht. onlyIf-keeps c (waited ⟫ set-pc t ht)
-  jump-keeps at (JR-cc-e8 c) h = imm8-keeps ⟫= λ e he. onlyIf-keeps c (waited ⟫ pc-said ⟫= λ p hp. set-pc (offset p e) (omega arith))
+  jump-keeps at (JP-cc-n16 c) h = imm16-keeps ⟫= λ t ht. onlyIf-keeps c (idled ⟫ set-pc t ht)
+  jump-keeps at (JR-cc-e8 c) h = imm8-keeps ⟫= λ e he. onlyIf-keeps c (idled ⟫ pc-said ⟫= λ p hp. set-pc (offset p e) (omega arith))
   jump-keeps at (CALL-cc-n16 c) h = imm16-keeps ⟫= λ t ht. onlyIf-keeps c (call-keeps t ht)
-  jump-keeps at (RET-cc c) h = waited ⟫ onlyIf-keeps c return-keeps
+  jump-keeps at (RET-cc c) h = idled ⟫ onlyIf-keeps c return-keeps
   jump-keeps at (RST-vec v) h = call-keeps v (ltb→lt v 65536 h) ⟫ normally
 
   halt-keeps : Keeps Q Any halt

@@ -17,7 +17,7 @@ use Rattle.opcodes.specs.Instruction.{decode}
 use Rattle.definition.specs.Step.{isAsleep, isBug, entryOf, dispatchedAs, storeAndTake, dispatch, enabled, fetched, instruction, awake, woken, step}
 use Rattle.opcodes.proofs.Tested.{at}
 use Rattle.ranges.proofs.Ranged.{Ranged, ranged-pc, ranged-sp}
-use Rattle.ranges.proofs.Keeping.{Byte, Place, Any, Keeps, _⟫=_, _⟫_, given, said, changed, loaded, stored, waited, peeked, either-keeps}
+use Rattle.ranges.proofs.Keeping.{Byte, Place, Any, Keeps, _⟫=_, _⟫_, given, said, changed, loaded, stored, idled, peeked, either-keeps}
 use Rattle.ranges.proofs.KeepingExecution.{vectorInRange, OutcomeRanged, execute-keeps}
 
 entry-place : (i : NextInterrupt) → Place (entryOf i)
@@ -52,7 +52,7 @@ module _ {R : Type 0} {Q : R → Type 0} where
   dispatch-keeps : Keeps Q OutcomeRanged dispatch
   dispatch-keeps =
       said ⟫= λ s hs. stored-and-taken (back (sp s)) (highByte (pc s)) (omega arith) (omega arith) ⟫= λ i hi.
-      stored Stack (back (back (sp s))) (lowByte (pc s)) (omega arith) (omega arith) ⟫ waited ⟫ waited ⟫ waited ⟫
+      stored Stack (back (back (sp s))) (lowByte (pc s)) (omega arith) (omega arith) ⟫ idled ⟫ idled ⟫ idled ⟫
       changed (setSP (back (back (sp s)))) (λ t r. ranged-sp (t .registers) r (back (back (sp s))) (omega arith)) ⟫
       changed (setPC (entryOf i)) (λ t r. ranged-pc (t .registers) r (entryOf i) (entry-place i)) ⟫
       changed (setIme false) (λ t r. r) ⟫
@@ -69,11 +69,11 @@ module _ {R : Type 0} {Q : R → Type 0} where
   awake-keeps = said ⟫= λ s hs. either-keeps (s .ime) (peeked ⟫= λ i hi. either-keeps (isPending i) dispatch-keeps instruction-keeps) instruction-keeps
 
   woken-keeps : Keeps Q OutcomeRanged woken
-  woken-keeps = changed (setHalt NotHalting) (λ s r. r) ⟫ said ⟫= λ s hs. either-keeps (s .dmg) awake-keeps (waited ⟫ awake-keeps)
+  woken-keeps = changed (setHalt NotHalting) (λ s r. r) ⟫ said ⟫= λ s hs. either-keeps (s .dmg) awake-keeps (idled ⟫ awake-keeps)
 
   pub step-keeps : Keeps Q OutcomeRanged step
   unfolding step
   step-keeps =
-      said ⟫= λ s hs. either-keeps (s .stopped) (waited ⟫ given Stopped tt)
-      (either-keeps (s .hdma) (waited ⟫ given RunningHDMA tt)
-      (either-keeps (isAsleep (s .halt)) (waited ⟫ peeked ⟫= λ i hi. either-keeps (isPending i) woken-keeps (given Halting tt)) awake-keeps))
+      said ⟫= λ s hs. either-keeps (s .stopped) (idled ⟫ given Stopped tt)
+      (either-keeps (s .hdma) (idled ⟫ given RunningHDMA tt)
+      (either-keeps (isAsleep (s .halt)) (idled ⟫ peeked ⟫= λ i hi. either-keeps (isPending i) woken-keeps (given Halting tt)) awake-keeps))

@@ -14,7 +14,7 @@ use Rattle.outcome.specs.declared.Refusal.the-variants.{MemoryLength, LowBitsOf
 use Rattle.outcome.specs.declared.Outcome.{Outcome}
 use Rattle.outcome.specs.declared.Outcome.the-variants.{Normal, InfiniteLoop, Halting, RunningHDMA, Stopped, RunningInterrupt, Breakpoint, Refused}
 use Rattle.sm83.specs.Basics.{if_then_else_, highByte, back}
-use Rattle.definition.specs.Bus.{Access, Fetch, Stack, Bus, Ran, runOn, byteAt, plain}
+use Rattle.definition.specs.Bus.{Access, Fetch, Stack, Bus, Performed, runOn, byteAt, plain}
 use Rattle.outcome.specs.declared.interrupt.NextInterrupt.{NextInterrupt}
 use Rattle.outcome.specs.declared.interrupt.NextInterrupt.the-variants.{NonePending, Pending}
 use Rattle.sm83.specs.State.{pc, sp, flags}
@@ -70,7 +70,7 @@ module _ {W : Type 0} (b : Bus W) where
   instruction-refused t v r e =
       subst (λ (p : ℕ). (decode (b .sees v p) ≡ ILLEGAL) × (3 ≡ numberOf r)) (pc-enabled t (t .latch)) (decoded (enabled t) v r (isIllegal (decode (b .sees v (pc (enabled t))))) refl e)
 
-  by-course : (s : Cpu) (m : W) (x : Ran W Ended) (r : Refusal) → b .size m ≡ 65536 → flags s % 16 ≡ 0 → Course b s m x → x .value .outcome ≡ Refused r → Why b s m (numberOf r)
+  by-course : (s : Cpu) (m : W) (x : Performed W Ended) (r : Refusal) → b .size m ≡ 65536 → flags s % 16 ≡ 0 → Course b s m x → x .value .outcome ≡ Refused r → Why b s m (numberOf r)
   unfolding runOn
   by-course s m x r z f (point1 p) e = absurd (not-refused tt e)
   by-course s m x r z f (point2 p q) e = absurd (not-refused tt e)

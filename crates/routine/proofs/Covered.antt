@@ -12,9 +12,9 @@ use Rattle.definition.specs.Step.{stepTree, Admission, accepted, admission, adm
 use Rattle.routine.specs.Flow.{instructionAt, returns}
 use Rattle.routine.specs.Rules.{Start, Rules}
 use Rattle.routine.specs.Trace.{Quiet, Fine, spares, Pending, pendingAfter, sparesPending, instructionFrom, returnsHome, SameWindow, SamePending}
-use Rattle.routine.proofs.Calm.{Calm}
+use Rattle.routine.proofs.Onward.{QuietParts}
 use Rattle.routine.proofs.Keeper.{Keeper, Came, shown}
-use Rattle.routine.proofs.Inside.{Stepped, step-ends, not-before, within}
+use Rattle.routine.proofs.Inside.{StepEnds, step-ends, not-before, within}
 use Rattle.routine.proofs.NoCalls.{MayBePending, still-none, host-leaves, no-return}
 
 -- "Start a passed routine at any marked address, in a state that a step accepts, awake, with interrupts off and none being enabled": quiet, at a start, in a memory of 65,536 bytes that shows the screened window
@@ -31,10 +31,10 @@ pub record Passed {W : Type 0} (b : Bus W) (screened : List ℕ) (first n : ℕ)
   pub low : first + n ≤ 65536
   pub keeper : Keeper b first n
 
-as-calm : {s : Cpu} → Quiet s → Calm s
+as-calm : {s : Cpu} → Quiet s → QuietParts s
 as-calm q = (q .running, q .no-hdma, q .not-halting, q .off, q .none-enabled, q .low-bits)
 
-as-quiet : (s : Cpu) → Calm s → Quiet s
+as-quiet : (s : Cpu) → QuietParts s → Quiet s
 as-quiet s c = record { running = c .0; no-hdma = c .1; not-halting = c .2; off = c .3; none-enabled = c .4; low-bits = c .5 }
 
 -- "A step accepts a state when neither of the two refuses it."
@@ -53,11 +53,11 @@ host-covered {b = b} {screened = screened} {s = s} {m = m} {m' = m'} {l = l} c s
     }
 
 module _ {W : Type 0} {b : Bus W} {screened : List ℕ} {first n : ℕ} (passed : Passed b screened first n) {s : Cpu} {m : W} {l : List Pending} (c : Covered b screened first n s m l) where
-  came : Came b first n (Stepped screened first n s) m (stepOn b s m)
+  came : Came b first n (StepEnds screened first n s) m (stepOn b s m)
   unfolding stepOn
   came =
-      subst⁻¹ (λ (a : Admission). Came b first n (Stepped screened first n s) m (admitted a b s m)) (accepts c)
-      (shown b first n (passed .keeper) (Stepped screened first n s) (byteAt screened) (stepTree s) (step-ends screened first n (passed .low) (passed .rules) s (as-calm (c .is-quiet)) (c .at-start)) m (c .shows))
+      subst⁻¹ (λ (a : Admission). Came b first n (StepEnds screened first n s) m (admitted a b s m)) (accepts c)
+      (shown b first n (passed .keeper) (StepEnds screened first n s) (byteAt screened) (stepTree s) (step-ends screened first n (passed .low) (passed .rules) s (as-calm (c .is-quiet)) (c .at-start)) m (c .shows))
 
   pub step-fine : Fine (stepOn b s m)
   step-fine = record { outcome = came .0 .0; none-taken = came .1; leaves-quiet = as-quiet _ (came .0 .1) }

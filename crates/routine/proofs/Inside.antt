@@ -18,8 +18,8 @@ use Rattle.definition.specs.Step.{isAsleep, isBug, step, awake, instruction, fe
 use Rattle.routine.specs.Flow.{classAt, instructionAt, flowAt, past, endsRoutine, returns}
 use Rattle.routine.specs.Rules.{Start, at-first, after, Rules}
 use Rattle.routine.specs.Trace.{isFine}
-use Rattle.routine.proofs.Calm.{Ends, Calm, skipped}
-use Rattle.routine.proofs.Moves.{Leads, on, jumps, back, LeftBy, weaker, execute-ends}
+use Rattle.routine.proofs.Onward.{Ends, QuietParts, skipped}
+use Rattle.routine.proofs.Moves.{Moves, on, jumps, back, LeftBy, weaker, execute-ends}
 use Rattle.routine.proofs.Keeper.{WindowSays}
 
 -- a calm state's step is a fetch and its instruction
@@ -30,7 +30,7 @@ body s v = execute (pc s) (decode v) (setPC (next (pc s)) s) ended
 otherwise : (test : Bool) (p q : Does Ended Outcome) (s : Cpu) → test ≡ false → (if test then p else q) s ended ≡ q s ended
 otherwise test p q s e = ap (λ (t : Bool). (if t then p else q) s ended) e
 
-calm-step : (s : Cpu) → Calm s → stepTree s ≡ read Fetch (pc s) (body s)
+calm-step : (s : Cpu) → QuietParts s → stepTree s ≡ read Fetch (pc s) (body s)
 unfolding step awake instruction fetched
 calm-step s c =
     otherwise (s .stopped) _ _ s (c .0)
@@ -57,8 +57,8 @@ module _ (m : List ℕ) (first n : ℕ) where
   within (after start h) = h
 
 -- how a step ends that begins at s
-abbrev pub Stepped : List ℕ → ℕ → ℕ → Cpu → Ended → Type 0
-Stepped m first n s e = T (isFine (e .outcome)) × Calm (e .cpu) × (T (not (returns (instructionAt m (pc s)) (flags s))) → Start m first (first + n) (pc (e .cpu)))
+abbrev pub StepEnds : List ℕ → ℕ → ℕ → Cpu → Ended → Type 0
+StepEnds m first n s e = T (isFine (e .outcome)) × QuietParts (e .cpu) × (T (not (returns (instructionAt m (pc s)) (flags s))) → Start m first (first + n) (pc (e .cpu)))
 
 module _ (m : List ℕ) (first n : ℕ) (small : first + n ≤ 65536) (rules : Rules m first (first + n)) where
   goes-on : (a : ℕ) → Start m first (first + n) a → T (not (endsRoutine (classAt m a))) → Start m first (first + n) (past m a)
@@ -67,7 +67,7 @@ module _ (m : List ℕ) (first n : ℕ) (small : first + n ≤ 65536) (rules : R
       let inner : past m a ≢ first + n = λ last. T-not (endsRoutine (classAt m a)) h (rules .ends a start last) in
       after start (omega arith)
 
-  arrives : (a f to : ℕ) → Start m first (first + n) a → T (not (returns (instructionAt m a) f)) → Leads (instructionAt m a) a (byteAt m (next a)) (byteAt m (next (next a))) f to → Start m first (first + n) to
+  arrives : (a f to : ℕ) → Start m first (first + n) a → T (not (returns (instructionAt m a) f)) → Moves (instructionAt m a) a (byteAt m (next a)) (byteAt m (next (next a))) f to → Start m first (first + n) to
   unfolding flowAt
   arrives a f to start stays (on e h) =
       let there : Start m first (first + n) (past m a) = goes-on a start h in
@@ -80,7 +80,7 @@ module _ (m : List ℕ) (first n : ℕ) (small : first + n ≤ 65536) (rules : R
   abbrev Bytes : ℕ → ℕ → Type 0
   Bytes = WindowSays first n (byteAt m)
 
-  executed : (s : Cpu) → Calm s → Start m first (first + n) (pc s) → Ends Bytes (Stepped m first n s) (body s (byteAt m (pc s)))
+  executed : (s : Cpu) → QuietParts s → Start m first (first + n) (pc s) → Ends Bytes (StepEnds m first n s) (body s (byteAt m (pc s)))
   unfolding flowAt
   executed s c start =
       let a : ℕ = pc s in
@@ -88,12 +88,12 @@ module _ (m : List ℕ) (first n : ℕ) (small : first + n ≤ 65536) (rules : R
       let fits : past m a ≤ first + n = rules .fits a start in
       let x : ℕ = byteAt m (next a) in
       let y : ℕ = byteAt m (next (next a)) in
-      weaker Bytes (LeftBy (instructionAt m a) a x y (flags s)) (Stepped m first n s)
+      weaker Bytes (LeftBy (instructionAt m a) a x y (flags s)) (StepEnds m first n s)
       (λ e left. (left .0, left .1, λ stays. arrives a (flags s) (pc (e .cpu)) start stays (left .2)))
       (body s (byteAt m a))
       (execute-ends Bytes a x y (instructionAt m a) s c (rules .allowed a start) ((λ one v told. told (omega arith) (omega arith)), (λ two v told. told (omega arith) (omega arith))))
 
-  pub step-ends : (s : Cpu) → Calm s → Start m first (first + n) (pc s) → Ends Bytes (Stepped m first n s) (stepTree s)
+  pub step-ends : (s : Cpu) → QuietParts s → Start m first (first + n) (pc s) → Ends Bytes (StepEnds m first n s) (stepTree s)
   step-ends s c start =
-      subst⁻¹ (Ends Bytes (Stepped m first n s)) (calm-step s c)
-      (λ v told. subst⁻¹ (λ (x : ℕ). Ends Bytes (Stepped m first n s) (body s x)) (told (not-before m first n start) (within m first n start)) (executed s c start))
+      subst⁻¹ (Ends Bytes (StepEnds m first n s)) (calm-step s c)
+      (λ v told. subst⁻¹ (λ (x : ℕ). Ends Bytes (StepEnds m first n s) (body s x)) (told (not-before m first n start) (within m first n start)) (executed s c start))

@@ -8,10 +8,10 @@ use native.Mathlib.Omega.{arith}
 use lib.Dec.{leb, ltb, T, T-not, le→leb, lt→ltb}
 use lib.ListN.{length-set}
 use lib.Seq.{getD-set-other}
-use Rattle.definition.specs.Bus.{Kind, Ask, answer, read, write, idle, peek, writeAndTake, Access, Read, Write, Idle, WriteAndTake, Bus, Ran, runOn, plain}
+use Rattle.definition.specs.Bus.{Kind, Ask, answer, read, write, idle, peek, writeAndTake, Access, Read, Write, Idle, WriteAndTake, Bus, Performed, runOn, plain}
 use Rattle.definition.specs.Step.{Ended}
 use Rattle.routine.specs.Trace.{takesNone, inWindow, spares, SameWindow}
-use Rattle.routine.proofs.Calm.{anything, Ends}
+use Rattle.routine.proofs.Onward.{anything, Ends}
 
 both-left : (p q : Bool) → T (p && q) → T p
 both-left true q t = tt
@@ -53,7 +53,7 @@ module _ {W : Type 0} (b : Bus W) where
   Tells K m = (a : ℕ) → K a (b .sees m a)
 
   -- what comes of a tree that ends as Q says: it takes no interrupt, and if it writes nothing into the window, then it keeps the window
-  abbrev pub Came : ℕ → ℕ → (Ended → Type 0) → W → Ran W Ended → Type 0
+  abbrev pub Came : ℕ → ℕ → (Ended → Type 0) → W → Performed W Ended → Type 0
   Came first n Q m r = Q (r .value) × T (takesNone (r .accesses)) × (T (spares first n (r .accesses)) → Keeps b first n m (r .memory))
 
 module _ {W : Type 0} (b : Bus W) (first n : ℕ) (keep : Keeper b first n) (Q : Ended → Type 0) where

@@ -12,7 +12,7 @@ pub mod Before
 pub mod Walked
 pub mod Scanned
 pub mod Windows
-pub mod Calm
+pub mod Onward
 pub mod Rounds
 pub mod PassedRoutine
 pub mod Starts
@@ -21,7 +21,7 @@ pub mod Opcodes
 pub mod Inside
 pub mod Alone
 pub mod Demand3
-pub mod Answers
+pub mod WholeScreen
 pub mod Covered
 pub mod PendingCalls
 pub mod NothingPending

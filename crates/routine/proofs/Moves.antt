@@ -18,17 +18,17 @@ use Rattle.definition.specs.Execution.{Does, work, prefixed, jump, execute, exe
 use Rattle.definition.specs.Step.{Ended, ended}
 use Rattle.routine.specs.Flow.{classOf, Flow, GoesTo, GoesToOrNext, flowOf, isForbidden, endsRoutine, returns}
 use Rattle.routine.specs.Trace.{isFine}
-use Rattle.routine.proofs.Calm.{anything, Ends, Calm, skipped, LeftAt, done, prefixed-ends, work-ends}
+use Rattle.routine.proofs.Onward.{anything, Ends, QuietParts, skipped, LeftAt, done, prefixed-ends, work-ends}
 
 -- from the instruction i at a, with the bytes x and y after it, at the flags f: on past it, to where it jumps, or back to the caller
-pub data Leads (i : Instruction) (a x y f to : ℕ) : Type 0 where
-  on : to ≡ skipped (operands i) (next a) → T (not (endsRoutine (classOf i))) → Leads i a x y f to
-  jumps : (flowOf (classOf i) a x y ≡ GoesTo to) ⊎ (flowOf (classOf i) a x y ≡ GoesToOrNext to) → Leads i a x y f to
-  back : T (returns i f) → Leads i a x y f to
+pub data Moves (i : Instruction) (a x y f to : ℕ) : Type 0 where
+  on : to ≡ skipped (operands i) (next a) → T (not (endsRoutine (classOf i))) → Moves i a x y f to
+  jumps : (flowOf (classOf i) a x y ≡ GoesTo to) ⊎ (flowOf (classOf i) a x y ≡ GoesToOrNext to) → Moves i a x y f to
+  back : T (returns i f) → Moves i a x y f to
 
 -- the end of that instruction
 abbrev pub LeftBy : Instruction → ℕ → ℕ → ℕ → ℕ → Ended → Type 0
-LeftBy i a x y f e = T (isFine (e .outcome)) × Calm (e .cpu) × Leads i a x y f (pc (e .cpu))
+LeftBy i a x y f e = T (isFine (e .outcome)) × QuietParts (e .cpu) × Moves i a x y f (pc (e .cpu))
 
 pub weaker : (K : ℕ → ℕ → Type 0) (P Q : Ended → Type 0) → ((e : Ended) → P e → Q e) → (p : Ask Ended) → Ends K P p → Ends K Q p
 weaker K P Q so (answer e) h = so e h
@@ -61,7 +61,7 @@ module _ (K : ℕ → ℕ → Type 0) (a x y : ℕ) where
   abbrev Told : Instruction → Type 0
   Told i = (1 ≤ operands i → (v : ℕ) → K (next a) v → v ≡ x) × (2 ≤ operands i → (v : ℕ) → K (next (next a)) v → v ≡ y)
 
-  jump-ends : (j : Jump) (s : Cpu) → Calm s → T (not (isForbidden (classOf (goes j)))) → Told (goes j) → Ends K (LeftBy (goes j) a x y (flags s)) (jump a j (setPC (next a) s) ended)
+  jump-ends : (j : Jump) (s : Cpu) → QuietParts s → T (not (isForbidden (classOf (goes j)))) → Told (goes j) → Ends K (LeftBy (goes j) a x y (flags s)) (jump a j (setPC (next a) s) ended)
   unfolding executing
   jump-ends JP-n16 s c h told =
       λ u p v q. (loop-fine (eqb (word v u) a), c, jumps (inl (word-to GoesTo (told .0 (omega arith) u p) (told .1 (omega arith) v q))))
@@ -85,7 +85,7 @@ module _ (K : ℕ → ℕ → Type 0) (a x y : ℕ) where
   onward : (i : Instruction) (f : ℕ) → T (not (endsRoutine (classOf i))) → (p : Ask Ended) → Ends K (LeftAt (skipped (operands i) (next a))) p → Ends K (LeftBy i a x y f) p
   onward i f goes-on = weaker K (LeftAt (skipped (operands i) (next a))) (LeftBy i a x y f) (λ e left. (left .0, left .1, on (left .2) goes-on))
 
-  pub execute-ends : (i : Instruction) (s : Cpu) → Calm s → T (not (isForbidden (classOf i))) → Told i → Ends K (LeftBy i a x y (flags s)) (execute a i (setPC (next a) s) ended)
+  pub execute-ends : (i : Instruction) (s : Cpu) → QuietParts s → T (not (isForbidden (classOf i))) → Told i → Ends K (LeftBy i a x y (flags s)) (execute a i (setPC (next a) s) ended)
   unfolding executing
   execute-ends (does w) s c h told = onward (does w) (flags s) tt (work w (setPC (next a) s) done) (work-ends K w (setPC (next a) s) c)
   execute-ends (goes j) s c h told = jump-ends j s c h told

@@ -8,7 +8,7 @@ use lib.Dec.{T}
 use lib.ListN.{length}
 use Rattle.sm83.specs.declared.Cpu.{Cpu}
 use Rattle.routine.specs.declared.Verdict.the-variants.{Passes}
-use Rattle.definition.specs.Bus.{Ran, plain}
+use Rattle.definition.specs.Bus.{Performed, plain}
 use Rattle.sm83.specs.State.{pc}
 use Rattle.definition.specs.Step.{Ended}
 use Rattle.definition.specs.Run.{runFor}
@@ -17,7 +17,7 @@ use Rattle.routine.specs.Screen.{isMarked, screen}
 use Rattle.routine.specs.Trace.{Quiet, Fine, isFineLast, Pending, SameWindow, stateAt, stepAt, GoesOn, StaysToTheLast, StaysToTheEnd, runStateAt, runPendingAt, runAt, runMemory, runStepState, runStep, RunStaysToTheLast, RunStaysToTheEnd, RunGoesOn}
 use Rattle.routine.proofs.Marks.{marked-start}
 use Rattle.routine.proofs.Before.{window, Admitted}
-use Rattle.routine.proofs.Answers.{when-passed}
+use Rattle.routine.proofs.WholeScreen.{when-passed}
 use Rattle.routine.proofs.Keeper.{plain-keeps}
 use Rattle.routine.proofs.Covered.{Covered, Passed}
 use Rattle.routine.proofs.Demand3.{demand3}
@@ -55,7 +55,7 @@ module _ (m : List ℕ) (first last : ℕ) (lent : List ℕ) (passes : screen m 
   in-place : {s : Cpu} {m' : List ℕ} {l : List Pending} → Covered plain m first n s m' l → Marked (pc s) × Quiet s
   in-place {s} c = (marks (pc s) (c .at-start), c .is-quiet)
 
-  and-fine : {s : Cpu} {m' : List ℕ} {l : List Pending} {r : Ran (List ℕ) Ended} → Covered plain m first n s m' l × Fine r → Marked (pc s) × Quiet s × Fine r
+  and-fine : {s : Cpu} {m' : List ℕ} {l : List Pending} {r : Performed (List ℕ) Ended} → Covered plain m first n s m' l × Fine r → Marked (pc s) × Quiet s × Fine r
   and-fine {s} c = (marks (pc s) (c .0 .at-start), c .0 .is-quiet, c .1)
 
   -- Any number of steps, where mem i is the memory before step i: between two of them a host changes what it likes outside the window.

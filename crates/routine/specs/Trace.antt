@@ -11,7 +11,7 @@ use Rattle.outcome.specs.declared.Outcome.the-variants.{Normal, InfiniteLoop, H
 use Rattle.outcome.specs.declared.LastOutcome.{LastOutcome}
 use Rattle.outcome.specs.declared.LastOutcome.the-variants.{NothingRun, Last}
 use Rattle.sm83.specs.Basics.{if_then_else_, next, back}
-use Rattle.definition.specs.Bus.{Bus, Ran, Access, Read, Write, Idle, WriteAndTake}
+use Rattle.definition.specs.Bus.{Bus, Performed, Access, Read, Write, Idle, WriteAndTake}
 use Rattle.sm83.specs.State.{pc, sp, flags}
 use Rattle.opcodes.specs.Arithmetic.{holds}
 use Rattle.opcodes.specs.Instruction.{Jump, JP-n16, JP-HL, JR-e8, CALL-n16, RET, RETI, JP-cc-n16, JR-cc-e8, CALL-cc-n16, RET-cc, RST-vec}
@@ -65,7 +65,7 @@ isFineLast NothingRun = true
 isFineLast (Last o) = isFine o
 
 -- "no step is refused, halts, stops or takes an interrupt": neither by its outcome, nor by its accesses, nor by the state that it leaves
-pub record Fine {W : Type 0} (r : Ran W Ended) : Type 0 where
+pub record Fine {W : Type 0} (r : Performed W Ended) : Type 0 where
   pub outcome : T (isFine (r .value .outcome))
   pub none-taken : T (takesNone (r .accesses))
   pub leaves-quiet : Quiet (r .value .cpu)
@@ -154,7 +154,7 @@ module _ {W : Type 0} (b : Bus W) where
     stateAt (suc k) = stepOn b (stateAt k) (mem k) .value .cpu
 
     -- step k
-    abbrev pub stepAt : ℕ → Ran W Ended
+    abbrev pub stepAt : ℕ → Performed W Ended
     stepAt k = stepOn b (stateAt k) (mem k)
 
     -- the calls pending before step k; the list has those before the first
@@ -206,7 +206,7 @@ module _ {W : Type 0} (b : Bus W) where
     abbrev pub runStepState : ℕ → ℕ → Cpu
     runStepState j = stateAt (runMemory j) (runStateAt j)
 
-    abbrev pub runStep : ℕ → ℕ → Ran W Ended
+    abbrev pub runStep : ℕ → ℕ → Performed W Ended
     runStep j = stepAt (runMemory j) (runStateAt j)
 
     -- the calls pending before run j; the list has those before the first

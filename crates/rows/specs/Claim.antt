@@ -5,7 +5,7 @@ use Prim.Native.Nat.{ℕ, zero, suc, _+_}
 use lib.ListN.{set, replicate}
 use Rattle.sm83.specs.declared.Cpu.{Cpu}
 use Rattle.sm83.specs.Basics.{bit}
-use Rattle.definition.specs.Bus.{Ran, plain, byteAt, mcycles}
+use Rattle.definition.specs.Bus.{Performed, plain, byteAt, mcycles}
 use Rattle.sm83.specs.State.{pairHL}
 use Rattle.sm83.specs.Flags.{flagH, flagC}
 use Rattle.outcome.specs.Numbers.{outcomeNumber}
@@ -22,7 +22,7 @@ pub data Claim : Type 0 where
   _is_ : Look → ℕ → Claim
 
 infix 70 _is_
-abbrev pub look : Ran (List ℕ) Ended → Look → ℕ
+abbrev pub look : Performed (List ℕ) Ended → Look → ℕ
 look r A = r .value .cpu .registers .a
 look r F = r .value .cpu .registers .f
 look r E = r .value .cpu .registers .e
@@ -37,24 +37,24 @@ look r OUTCOME = outcomeNumber (r .value .outcome)
 look r M-CYCLES = mcycles (r .accesses)
 look r (BYTE a) = byteAt (r .memory) a
 
-abbrev pub found : Ran (List ℕ) Ended → Claim → ℕ
+abbrev pub found : Performed (List ℕ) Ended → Claim → ℕ
 found r (l is n) = look r l
 
 abbrev pub wanted : Claim → ℕ
 wanted (l is n) = n
 
 -- 65,536 bytes, all 0, with some written from an address on
-unfoldable pub written : ℕ → List ℕ → List ℕ → List ℕ
-written a [] m = m
-written a (v ∷ l) m = written (suc a) l (set m a v)
+unfoldable pub withBytes : ℕ → List ℕ → List ℕ → List ℕ
+withBytes a [] m = m
+withBytes a (v ∷ l) m = withBytes (suc a) l (set m a v)
 
 abbrev pub zeros : List ℕ
 zeros = replicate 65536 0
 
 -- the last of so many steps and one more
-unfoldable pub stepsOf : ℕ → Cpu → List ℕ → Ran (List ℕ) Ended
+unfoldable pub stepsOf : ℕ → Cpu → List ℕ → Performed (List ℕ) Ended
 stepsOf zero s m = stepOn plain s m
-stepsOf (suc n) s m = let r : Ran (List ℕ) Ended = stepOn plain s m in stepsOf n (r .value .cpu) (r .memory)
+stepsOf (suc n) s m = let r : Performed (List ℕ) Ended = stepOn plain s m in stepsOf n (r .value .cpu) (r .memory)
 
 -- a row: a state, memory, how many steps come before the last, and what is said of it; or a window's bytes at 0 and its marks
 pub data Row : Type 0 where
@@ -63,10 +63,10 @@ pub data Row : Type 0 where
 
 -- what the screen answers of a window at 0: the verdict's number, 0 if it passes, and the marks
 abbrev pub screenedAt0 : List ℕ → List ℕ → ℕ → List ℕ
-screenedAt0 window marks last = let r : Screened = screen (written 0 window zeros) 0 last marks in verdictNumber (r .verdict) ∷ r .marks
+screenedAt0 window marks last = let r : Screened = screen (withBytes 0 window zeros) 0 last marks in verdictNumber (r .verdict) ∷ r .marks
 
 unfoldable pub foundOf : Row → List ℕ
-foundOf (steps s m n claims) = let r : Ran (List ℕ) Ended = stepsOf n s m in map (found r) claims
+foundOf (steps s m n claims) = let r : Performed (List ℕ) Ended = stepsOf n s m in map (found r) claims
 foundOf (passes [] marks) = []
 foundOf (passes (x ∷ window) marks) = screenedAt0 (x ∷ window) (map (λ y. 7) (x ∷ window)) (place window)
   where

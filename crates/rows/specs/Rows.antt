@@ -6,7 +6,7 @@ use Rattle.sm83.specs.declared.Cpu.{Cpu}
 use Rattle.sm83.specs.declared.HaltMode.the-variants.{HaltBug}
 use Rattle.sm83.specs.State.{onRegisters, writeA, writeAF, setSP, setPC, setIme, setHalt}
 use Rattle.sm83.specs.PowerOn.{cpu-zero}
-use Rattle.rows.specs.Claim.{A, F, E, HL, SP, PC, H, C, IME, LATCH, OUTCOME, M-CYCLES, BYTE, _is_, written, zeros, Row, steps, passes}
+use Rattle.rows.specs.Claim.{A, F, E, HL, SP, PC, H, C, IME, LATCH, OUTCOME, M-CYCLES, BYTE, _is_, withBytes, zeros, Row, steps, passes}
 
 -- every register 0, on a DMG
 abbrev pub still : Cpu
@@ -17,10 +17,10 @@ with-A a = onRegisters (writeA a) still
 
 -- instructions at 0, and IE and IF
 abbrev pub code : List ℕ → List ℕ
-code l = written 0 l zeros
+code l = withBytes 0 l zeros
 
 abbrev pub both-1 : List ℕ
-both-1 = written 0xffff (0x01 ∷ []) (written 0xff0f (0x01 ∷ []) zeros)
+both-1 = withBytes 0xffff (0x01 ∷ []) (withBytes 0xff0f (0x01 ∷ []) zeros)
 
 unfoldable pub rows : List Row
 rows =
@@ -45,7 +45,7 @@ rows =
     -- HaltBug, IME clear, byte CB at PC: SET 1,E; PC moves by one; 2 M-cycles
     ∷ steps (setHalt HaltBug still) (code (0xcb ∷ [])) 0 (E is 0x02 ∷ PC is 0x0001 ∷ M-CYCLES is 2 ∷ [])
     -- POP AF over bytes FF FF: F=F0, A=FF
-    ∷ steps (setSP 0x0010 still) (written 0x0010 (0xff ∷ 0xff ∷ []) (code (0xf1 ∷ []))) 0 (F is 0xf0 ∷ A is 0xff ∷ [])
+    ∷ steps (setSP 0x0010 still) (withBytes 0x0010 (0xff ∷ 0xff ∷ []) (code (0xf1 ∷ []))) 0 (F is 0xf0 ∷ A is 0xff ∷ [])
     -- Windows: C9 passes, marks 1; 18 FE passes, marks 1 0
     ∷ passes (0xc9 ∷ []) (1 ∷ [])
     ∷ passes (0x18 ∷ 0xfe ∷ []) (1 ∷ 0 ∷ [])

@@ -10,7 +10,7 @@ use Rattle.sm83.specs.declared.Cpu.{Cpu}
 use Rattle.outcome.specs.declared.Refusal.the-variants.{MemoryLength, LowBitsOfF}
 use Rattle.outcome.specs.declared.LastOutcome.the-variants.{NothingRun, Last}
 use Rattle.sm83.specs.Basics.{if_then_else_}
-use Rattle.definition.specs.Bus.{Bus, Ran, mcycles}
+use Rattle.definition.specs.Bus.{Bus, Performed, mcycles}
 use Rattle.sm83.specs.State.{flags}
 use Rattle.definition.specs.Step.{Ended, Admission, accepted, refusedAs, admission, stepOn}
 use Rattle.definition.specs.Run.{RunAnswer, stopsRun, thenRest, repeated, notRun, admittedRun, runFor}
@@ -32,16 +32,16 @@ module _ (b : Bus (List ℕ)) (h : Behind b) (budget : ℕ) (s : Cpu) (m : List 
 
 -- A run of one step answers what the step answers.
 module _ {W : Type 0} (b : Bus W) where
-  pub record Once (r : RunAnswer W) (q : Ran W Ended) : Type 0 where
+  pub record Once (r : RunAnswer W) (q : Performed W Ended) : Type 0 where
     pub last : r .last ≡ Last (q .value .outcome)
     pub cpu : r .cpu ≡ q .value .cpu
     pub memory : r .memory ≡ q .memory
     pub cycles : r .cycles ≡ mcycles (q .accesses)
 
-  alone : Ran W Ended → RunAnswer W
+  alone : Performed W Ended → RunAnswer W
   alone q = record { last = Last (q .value .outcome); cpu = q .value .cpu; memory = q .memory; steps = 1; cycles = mcycles (q .accesses) }
 
-  stopped-or-not : (t : Bool) (q : Ran W Ended) → Once (if t then alone q else thenRest (mcycles (q .accesses)) (repeated b (Last (q .value .outcome)) 0 (q .value .cpu) (q .memory))) q
+  stopped-or-not : (t : Bool) (q : Performed W Ended) → Once (if t then alone q else thenRest (mcycles (q .accesses)) (repeated b (Last (q .value .outcome)) 0 (q .value .cpu) (q .memory))) q
   unfolding repeated alone
   stopped-or-not true q = record { last = refl; cpu = refl; memory = refl; cycles = refl }
   stopped-or-not false q = record { last = refl; cpu = refl; memory = refl; cycles = omega arith }

@@ -7,7 +7,7 @@ use Rattle.outcome.specs.declared.Outcome.{Outcome}
 use Rattle.outcome.specs.declared.Outcome.the-variants.{Normal}
 use Rattle.outcome.specs.declared.LastOutcome.{LastOutcome}
 use Rattle.outcome.specs.declared.LastOutcome.the-variants.{NothingRun, Last}
-use Rattle.definition.specs.Bus.{Ran, plain, mcycles}
+use Rattle.definition.specs.Bus.{Performed, plain, mcycles}
 use Rattle.definition.specs.Step.{Ended, stepOn}
 use Rattle.run.specs.declared.Stepped.{Stepped}
 
@@ -17,7 +17,7 @@ outcomeOf NothingRun = Normal
 outcomeOf (Last o) = o
 
 -- a step's answer is pinned by its outcome and state, its memory and the length of its list of accesses
-pub record Answers (s : Cpu) (m : List ℕ) (r : Stepped) (m' : List ℕ) : Type 0 where
+pub record StepAnswers (s : Cpu) (m : List ℕ) (r : Stepped) (m' : List ℕ) : Type 0 where
   pub outcome : r .outcome ≡ stepOn plain s m .value .outcome
   pub cpu : r .cpu ≡ stepOn plain s m .value .cpu
   pub memory : m' ≡ stepOn plain s m .memory

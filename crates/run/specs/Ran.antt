@@ -4,5 +4,5 @@ use Prim.Native.Nat.{ℕ}
 use Rattle.definition.specs.Run.{RunAnswer}
 use Rattle.run.specs.declared.Ran.{Ran}
 
-abbrev pub answer : Ran → List ℕ → RunAnswer (List ℕ)
-answer r m = record { last = r .last; cpu = r .cpu; memory = m; steps = r .steps; cycles = r .cycles .0 }
+abbrev pub runAnswer : Ran → List ℕ → RunAnswer (List ℕ)
+runAnswer r m = record { last = r .last; cpu = r .cpu; memory = m; steps = r .steps; cycles = r .cycles .0 }

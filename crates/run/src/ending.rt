@@ -1,7 +1,7 @@
 // Which outcomes end a run, and a run that is refused before it begins.
 ghost use mathlib.Core.Path.{_≡_};
 ghost use Rattle.definition.specs.Run.{stopsRun, stopsLast, notRun};
-ghost use Rattle.run.specs.Ran.{answer};
+ghost use Rattle.run.specs.Ran.{runAnswer};
 use crate::Ran;
 use outcome::LastOutcome;
 use outcome::Outcome;
@@ -10,7 +10,7 @@ use sm83::Cpu;
 use sm83::MCycles;
 
 // After InfiniteLoop, Breakpoint, Stopped or a refusal.
-pub fn stops(outcome: Outcome) -> bool
+pub fn stops_run(outcome: Outcome) -> bool
     ensures { λ r. ⌜ r ≡ stopsRun outcome ⌝ }
 {
     match outcome {
@@ -26,18 +26,18 @@ pub fn stops(outcome: Outcome) -> bool
 }
 
 // A run whose last outcome is this one goes no further, whatever is left of its budget.
-pub fn stopped(last: LastOutcome) -> bool
+pub fn stops_last(last: LastOutcome) -> bool
     ensures { λ r. ⌜ r ≡ stopsLast last ⌝ }
 {
     match last {
         LastOutcome::NothingRun => false,
-        LastOutcome::Last(outcome) => stops(outcome),
+        LastOutcome::Last(outcome) => stops_run(outcome),
     }
 }
 
 // Everything is left as it came, and costs nothing.
 pub fn refused(cpu: Cpu, refusal: Refusal, mem: &mut [u8]) -> Ran
-    ensures { λ r. ⌜ answer r (now (mem .exit)) ≡ notRun refusal cpu (now (mem .entry)) ⌝ }
+    ensures { λ r. ⌜ runAnswer r (now (mem .exit)) ≡ notRun refusal cpu (now (mem .entry)) ⌝ }
 {
     Ran {
         last: LastOutcome::Last(Outcome::Refused(refusal)),

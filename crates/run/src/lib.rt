@@ -2,8 +2,8 @@
 ghost use mathlib.Core.Path.{_≡_};
 ghost use Rattle.definition.specs.Bus.{plain};
 ghost use Rattle.definition.specs.Run.{runFor};
-ghost use Rattle.run.specs.Ran.{answer};
-ghost use Rattle.run.specs.Answers.{outcomeOf, Answers};
+ghost use Rattle.run.specs.Ran.{runAnswer};
+ghost use Rattle.run.specs.Answers.{outcomeOf, StepAnswers};
 use crate::ending::refused;
 use crate::repeat::repeat;
 use outcome::LastOutcome;
@@ -29,7 +29,7 @@ pub struct Stepped {
 }
 
 pub fn run(cpu: Cpu, mem: &mut [u8], budget: u16) -> Ran
-    ensures { λ r. ⌜ answer r (now (mem .exit)) ≡ runFor plain budget cpu (now (mem .entry)) ⌝ }
+    ensures { λ r. ⌜ runAnswer r (now (mem .exit)) ≡ runFor plain budget cpu (now (mem .entry)) ⌝ }
 {
     let whole = mem.len() == 65536;
     if whole {
@@ -56,7 +56,7 @@ fn outcome_of(last: LastOutcome) -> Outcome
 
 // A run of one step.
 pub fn step(cpu: Cpu, mem: &mut [u8]) -> Stepped
-    ensures { λ r. ⌜ Answers cpu (now (mem .entry)) r (now (mem .exit)) ⌝ }
+    ensures { λ r. ⌜ StepAnswers cpu (now (mem .entry)) r (now (mem .exit)) ⌝ }
 {
     let x = run(cpu, mem, 1);
     let s = x.cpu;

@@ -5,9 +5,9 @@ ghost use Rattle.outcome.specs.declared.LastOutcome.the-variants.{NothingRun};
 ghost use Rattle.sm83.specs.State.{flags};
 ghost use Rattle.definition.specs.Run.{repeated};
 ghost use Rattle.bus.specs.World.{Given, behind};
-ghost use Rattle.run.specs.Ran.{answer};
+ghost use Rattle.run.specs.Ran.{runAnswer};
 use crate::Ran;
-use crate::ending::stops;
+use crate::ending::stops_run;
 use bus::Port;
 use instruction::instructions_table::instructions;
 use instruction::prefixed_table::prefixed_instructions;
@@ -18,7 +18,7 @@ use step::next_instruction;
 
 pub fn repeat(cpu: Cpu, mem: &mut [u8], budget: u16) -> Ran
     requires { ⌜ Given (now mem) (flags cpu % 16 ≡ 0) ⌝ }
-    ensures { λ r. ⌜ answer r (now (mem .exit)) ≡ repeated behind NothingRun budget cpu (now (mem .entry)) ⌝ }
+    ensures { λ r. ⌜ runAnswer r (now (mem .exit)) ≡ repeated behind NothingRun budget cpu (now (mem .entry)) ⌝ }
 {
     let table = instructions();
     let prefixed = prefixed_instructions();
@@ -33,7 +33,7 @@ pub fn repeat(cpu: Cpu, mem: &mut [u8], budget: u16) -> Ran
         let o = x.outcome;
         last = LastOutcome::Last(o);
         n = n + 1;
-        let stop = stops(o);
+        let stop = stops_run(o);
         if stop {
             let cycles = p.cycles;
             return Ran {

@@ -42,18 +42,18 @@ left-clear (RefusedAt r a) m first n refused = refl
 
 module _ (m : List ℕ) (first last : ℕ) (marks : List ℕ) where
   -- what the screen answers, and the marks that it leaves
-  abbrev pub Answers : Verdict → List ℕ → Type 0
-  Answers v left = (v ≡ screen m first last marks .verdict) × (left ≡ screen m first last marks .marks)
+  abbrev pub ScreenAnswers : Verdict → List ℕ → Type 0
+  ScreenAnswers v left = (v ≡ screen m first last marks .verdict) × (left ≡ screen m first last marks .marks)
 
-  answers : (v : Verdict) (left : List ℕ) → screen m first last marks ≡ record { verdict = v; marks = left } → Answers v left
+  answers : (v : Verdict) (left : List ℕ) → screen m first last marks ≡ record { verdict = v; marks = left } → ScreenAnswers v left
   answers v left e = (sym (ap (λ (s : Screened). s .verdict) e), sym (ap (λ (s : Screened). s .marks) e))
 
   -- 1, 4, 5, 6: "marks untouched"
-  pub early : {r : ScreenRefusal} → Early m first last marks r → Answers (Refused r) marks
+  pub early : {r : ScreenRefusal} → Early m first last marks r → ScreenAnswers (Refused r) marks
   early {r} e = answers (Refused r) marks (refuses m first last marks e)
 
   -- 7, 8, 9, 10: "marks all 0", or none applies
-  pub late : Admitted m first last marks → (v : Verdict) (left : List ℕ) → v ≡ verdict m first (length marks) → left ≡ marksAfter v m first (length marks) → Answers v left
+  pub late : Admitted m first last marks → (v : Verdict) (left : List ℕ) → v ≡ verdict m first (length marks) → left ≡ marksAfter v m first (length marks) → ScreenAnswers v left
   late ok v left said e =
       answers v left
       (admits m first last marks ok

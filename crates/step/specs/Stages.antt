@@ -13,7 +13,7 @@ use Rattle.definition.specs.Bus.{Ask, peek}
 use Rattle.outcome.specs.Interrupts.{isPending}
 use Rattle.sm83.specs.State.{setPC, setHalt}
 use Rattle.definition.specs.Execution.{Does, give}
-use Rattle.definition.specs.Step.{Ended, isBug, instruction, awake, rested}
+use Rattle.definition.specs.Step.{Ended, isBug, instruction, awake, unlessAsleep}
 use Rattle.instruction.specs.declared.Instruction.{Instruction}
 use Rattle.instruction.specs.Entry.{Tables}
 use Rattle.bus.specs.declared.Port.{Port}
@@ -26,7 +26,7 @@ abbrev pub afterHalt : Bool → Does Ended Outcome
 afterHalt halting = if halting then give Halting else awake
 
 abbrev pub Wakes : Cpu → Port → List ℕ → Bool → Cpu → Port → List ℕ → Type 0
-Wakes s port m halting = Reaches (rested s) s port m (afterHalt halting)
+Wakes s port m halting = Reaches (unlessAsleep s) s port m (afterHalt halting)
 
 -- points 1 and 2 do not apply, and the tables are there
 pub record Going (s : Cpu) (t u : List ℕ) : Type 0 where
@@ -35,8 +35,8 @@ pub record Going (s : Cpu) (t u : List ℕ) : Type 0 where
   pub no-transfer : s .hdma ≡ false
 
 -- point 4: whether an interrupt is taken is asked only where IME is set
-abbrev pub called : Bool → (Bool → Ask Ended) → Ask Ended
-called ime rest = if ime then peek (λ i. rest (isPending i)) else rest false
+abbrev pub interrupted : Bool → (Bool → Ask Ended) → Ask Ended
+interrupted ime rest = if ime then peek (λ i. rest (isPending i)) else rest false
 
 -- point 6, after the fetch, if HaltBug ends there: PC goes back to `at`
 abbrev pub unbugged : Cpu → ℕ → Cpu

@@ -4,7 +4,7 @@ ghost use lib.ListN.{length};
 ghost use Rattle.definition.specs.Step.{vector, entryOf, dispatchedAs, dispatch};
 ghost use Rattle.bus.specs.World.{Looks};
 ghost use Rattle.bus.specs.Leads.{Runs};
-ghost use Rattle.step.specs.Stages.{called};
+ghost use Rattle.step.specs.Stages.{interrupted};
 use bus::AccessKind;
 use bus::Port;
 use bus::interrupts::peek_next_interrupt;
@@ -76,9 +76,9 @@ pub fn dispatch(cpu: Cpu, port: Port, mem: &mut [u8]) -> Executed
 }
 
 // IME set and an interrupt pending.
-pub fn is_called(ime: bool, mem: &mut [u8]) -> bool
+pub fn is_interrupted(ime: bool, mem: &mut [u8]) -> bool
     requires { ⌜ length (now mem) ≡ 65536 ⌝ }
-    ensures { λ r. ⌜ Looks (called ime) (now (mem .entry)) r (now (mem .exit)) ⌝ }
+    ensures { λ r. ⌜ Looks (interrupted ime) (now (mem .entry)) r (now (mem .exit)) ⌝ }
 {
     if ime {
         let next = peek_next_interrupt(mem);

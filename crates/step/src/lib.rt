@@ -5,7 +5,7 @@ ghost use Rattle.bus.specs.World.{Given};
 ghost use Rattle.bus.specs.Leads.{Runs};
 ghost use Rattle.step.specs.Stages.{Going};
 use crate::dispatch::dispatch;
-use crate::dispatch::is_called;
+use crate::dispatch::is_interrupted;
 use crate::fetch::fetch_entry;
 use crate::waking::wake;
 use bus::Port;
@@ -66,7 +66,7 @@ fn awake(
     requires { ⌜ Given (now mem) (Tables (now plain) (now prefixed)) ⌝ }
     ensures { λ r. ⌜ Runs awake cpu port (now (mem .entry)) (r .outcome) (r .cpu) (r .port) (now (mem .exit)) ⌝ }
 {
-    let called = is_called(cpu.ime, mem);
+    let called = is_interrupted(cpu.ime, mem);
     if called {
         dispatch(cpu, port, mem)
     } else {

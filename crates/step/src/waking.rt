@@ -35,7 +35,7 @@ pub fn is_asleep(halt: HaltMode) -> bool
 }
 
 // 3. A halt goes on for one idle access, and ends with it if an interrupt is requested; a CGB takes one access more.
-fn rest(cpu: Cpu, port: Port, mem: &mut [u8]) -> Woken
+fn idle_asleep(cpu: Cpu, port: Port, mem: &mut [u8]) -> Woken
     requires { ⌜ Given (now mem) (isAsleep (cpu .halt) ≡ true) ⌝ }
     ensures { λ r. ⌜ Wakes cpu port (now (mem .entry)) (r .halting) (r .cpu) (r .port) (now (mem .exit)) ⌝ }
 {
@@ -76,7 +76,7 @@ pub fn wake(cpu: Cpu, port: Port, mem: &mut [u8]) -> Woken
     let halt = cpu.halt;
     let asleep = is_asleep(halt);
     if asleep {
-        rest(cpu, port, mem)
+        idle_asleep(cpu, port, mem)
     } else {
         Woken {
             cpu: cpu,

@@ -8,12 +8,12 @@ use Rattle.sm83.specs.declared.Cpu.{Cpu}
 use Rattle.definition.specs.Bus.{byteAt}
 use Rattle.ranges.proofs.Ranges.{Bytes}
 use Rattle.blocks.specs.declared.state.StateRead.the-variants.{State}
-use Rattle.blocks.specs.StateBlock.{stateFields, stateBytes, stateAt, stateOf}
+use Rattle.blocks.specs.StateBlock.{stateFields, stateBytes, stateIn, stateOf}
 use Rattle.blocks.proofs.state.Coded.{low-back, high-back, flag-back, halt-back}
 use Rattle.blocks.proofs.bytes.Filled.{at-length, bytesFrom, parted}
 use Rattle.blocks.proofs.state.WellFormed.{WellFormed, read-only-if}
 
-own-front : (block : List ℕ) → Bytes block → WellFormed block → stateFields (stateAt block) ≡ bytesFrom block 0 18
+own-front : (block : List ℕ) → Bytes block → WellFormed block → stateFields (stateIn block) ≡ bytesFrom block 0 18
 own-front block bytes w =
     simp (
       low-back (byteAt block 9) (byteAt block 8) (bytes 8),
@@ -33,6 +33,6 @@ state-back block s bytes read =
     let found = read-only-if block s read in
     let same : length block ≡ 24 = found .0 .its-length in
     ap (λ (it : Cpu). stateBytes it block) (sym (found .1))
-    ∙ at-length 24 (stateFields (stateAt block)) block same
+    ∙ at-length 24 (stateFields (stateIn block)) block same
     ∙ ap (λ (front : List ℕ). front ++ drop 18 block) (own-front block bytes (found .0))
     ∙ sym (parted block 0 18 (omega arith))

@@ -10,7 +10,7 @@ use Rattle.sm83.specs.declared.Cpu.{Cpu}
 use Rattle.sm83.specs.Basics.{if_then_else_}
 use Rattle.definition.specs.Bus.{byteAt}
 use Rattle.blocks.specs.declared.state.StateRead.the-variants.{State, Malformed}
-use Rattle.blocks.specs.StateBlock.{wellFormed, stateAt, stateOf}
+use Rattle.blocks.specs.StateBlock.{wellFormed, stateIn, stateOf}
 
 pub record WellFormed (block : List ℕ) : Type 0 where
   pub its-length : length block ≡ 24
@@ -60,11 +60,11 @@ read-means true found s e = (refl, cc)
 read-means false found s e = (cc, cc)
 
 -- a well-formed block reads as the state at its offsets, and a block that reads as a state is well-formed
-pub read-if : (block : List ℕ) → WellFormed block → stateOf block ≡ State (stateAt block)
+pub read-if : (block : List ℕ) → WellFormed block → stateOf block ≡ State (stateIn block)
 read-if block w = simp (tested block w)
 
-pub read-only-if : (block : List ℕ) (s : Cpu) → stateOf block ≡ State s → WellFormed block × (stateAt block ≡ s)
-read-only-if block s e = let means = read-means (wellFormed block) (stateAt block) s e in (told block (means .0), means .1)
+pub read-only-if : (block : List ℕ) (s : Cpu) → stateOf block ≡ State s → WellFormed block × (stateIn block ≡ s)
+read-only-if block s e = let means = read-means (wellFormed block) (stateIn block) s e in (told block (means .0), means .1)
 
 -- malformed exactly when it is not well-formed
 pub malformed-only-if : (block : List ℕ) → stateOf block ≡ Malformed → WellFormed block → ⊥
@@ -75,4 +75,4 @@ otherwise true found not-so = absurd (not-so refl)
 otherwise false found not-so = refl
 
 pub malformed-if : (block : List ℕ) → (WellFormed block → ⊥) → stateOf block ≡ Malformed
-malformed-if block not-so = otherwise (wellFormed block) (stateAt block) (λ e. not-so (told block e))
+malformed-if block not-so = otherwise (wellFormed block) (stateIn block) (λ e. not-so (told block e))

@@ -6,7 +6,7 @@ use Rattle.sm83.specs.declared.Cpu.{Cpu}
 use Rattle.outcome.specs.declared.Outcome.the-variants.{Normal}
 use Rattle.sm83.specs.State.{pairHL, setSP, setF}
 use Rattle.opcodes.specs.Arithmetic.{wordSumFlags}
-use Rattle.definition.specs.Execution.{_>>_, wait, push, pop}
+use Rattle.definition.specs.Execution.{_>>_, idle, push, pop}
 use Rattle.arithmetic.specs.declared.words.ComputedWord.{ComputedWord}
 use Rattle.arithmetic.specs.Words.{wordWith}
 use Rattle.bus.specs.declared.Port.{Port}
@@ -17,7 +17,7 @@ use Rattle.execution.specs.Mirror.{made, loadSPMade, loadHLMade, addSPMa
 use Rattle.execution.specs.Worked.{madeBy, worked, offsetBy}
 use Rattle.bus.proofs.Leading.{after}
 use Rattle.execution.proofs.results.Ending.{ending}
-use Rattle.bus.proofs.Parts.{waited}
+use Rattle.bus.proofs.Parts.{idled}
 
 module _ (s : Cpu) (port port' : Port) (m m' : List ℕ) (r : Worked) where
   pub loaded-sp : (t : Cpu) (hl : ℕ) → Idles port m port' m' → hl ≡ pairHL (s .registers) → t ≡ setSP hl s → r ≡ worked t port' 0 Normal → Leads loadSPMade s port m (madeBy r) (r .cpu) (r .port) m'
@@ -40,7 +40,7 @@ module _ (s : Cpu) (port port' : Port) (m m' : List ℕ) (r : Worked) where
   slow w h e3 k = h .there _ ∙ simp e3
 
   pub word-pushed : (t : Cpu) (port'' : Port) (m'' : List ℕ) (v : ℕ) → Idles port m port' m' → Leads (push v) s port' m' tt t port'' m'' → r ≡ worked t port'' 0 Normal → Leads (pushMade v) s port m (madeBy r) (r .cpu) (r .port) m''
-  word-pushed t port'' m'' v h l e = ending s port m m'' r _ (pushMade v) e (after s s t port port' port'' m m' m'' wait (λ _. push v >> made 0) tt _ (waited s port port' m m' h) (λ k. l (λ _ x. made 0 x k)))
+  word-pushed t port'' m'' v h l e = ending s port m m'' r _ (pushMade v) e (after s s t port port' port'' m m' m'' idle (λ _. push v >> made 0) tt _ (idled s port port' m m' h) (λ k. l (λ _ x. made 0 x k)))
 
   pub word-popped : (t : Cpu) (w : ℕ) → Leads pop s port m w t port' m' → r ≡ worked t port' w Normal → Leads popMade s port m (madeBy r) (r .cpu) (r .port) m'
   word-popped t w l e = ending s port m m' r _ popMade e (λ k. l (λ x y. made x y k))

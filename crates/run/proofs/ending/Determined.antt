@@ -6,10 +6,10 @@ use denote.Ref.{now}
 use Rattle.sm83.proofs.OneAnswer.{OneAnswer}
 use Rattle.definition.specs.Run.{RunAnswer}
 use Rattle.run.specs.declared.Ran.{Ran}
-use Rattle.run.proofs.ending.stops.Reads as stops
-use Rattle.run.proofs.ending.stopped.Reads as stopped
+use Rattle.run.proofs.ending.stops_run.Reads as stops
+use Rattle.run.proofs.ending.stops_last.Reads as stopped
 use Rattle.run.proofs.ending.refused.Reads as refused
-use Rattle.run.specs.Ran.{answer}
+use Rattle.run.specs.Ran.{runAnswer}
 
 pub stops-determined : OneAnswer stops.Post
 stops-determined κs input v w left other p q = p ∙ sym q
@@ -22,7 +22,7 @@ abbrev ranOf : RunAnswer (List ℕ) → Ran
 ranOf a = record { last = a .last; cpu = a .cpu; steps = a .steps; cycles = record { 0 = a .cycles } }
 
 -- one equation with the definition's answer pins the code's, and the memory
-pub same-run : (a : RunAnswer (List ℕ)) (r q : Ran) (m n : List ℕ) → answer r m ≡ a → answer q n ≡ a → (r ≡ q) × (m ≡ n)
+pub same-run : (a : RunAnswer (List ℕ)) (r q : Ran) (m n : List ℕ) → runAnswer r m ≡ a → runAnswer q n ≡ a → (r ≡ q) × (m ≡ n)
 same-run a r q m n e f = (ap ranOf (e ∙ sym f), ap (λ (x : RunAnswer (List ℕ)). x .memory) (e ∙ sym f))
 
 -- of the arguments, as the two calls leave them, memory is the third

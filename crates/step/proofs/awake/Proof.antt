@@ -6,11 +6,11 @@ use Rattle.step.proofs.awake.Tie as tie
 
 returns : tie.Need-returns
 returns c =
-    record { there = awake-dispatches _ _ _ _ _ _ _ _ _ (c .before .before .before .before .before .before .before .is-called .ensures) (c .before .before .before .before .if1 .taken) (c .before .before .dispatch .ensures .there); whole = c .before .before .dispatch .ensures .whole }
+    record { there = awake-dispatches _ _ _ _ _ _ _ _ _ (c .before .before .before .before .before .before .before .is-interrupted .ensures) (c .before .before .before .before .if1 .taken) (c .before .before .dispatch .ensures .there); whole = c .before .before .dispatch .ensures .whole }
 
 returns-2 : tie.Need-returns-2
 returns-2 c =
-    record { there = awake-runs _ _ _ _ _ _ _ _ _ (c .before .before .before .before .before .before .before .is-called .ensures) (c .before .before .before .before .if1 .left) (c .before .before .run-one .ensures .there); whole = c .before .before .run-one .ensures .whole }
+    record { there = awake-runs _ _ _ _ _ _ _ _ _ (c .before .before .before .before .before .before .before .is-interrupted .ensures) (c .before .before .before .before .if1 .left) (c .before .before .run-one .ensures .there); whole = c .before .before .run-one .ensures .whole }
 
 pub awake-spec : {M : Type 1} → statement M
 awake-spec =

@@ -7,13 +7,13 @@ use Rattle.execution.proofs.compute.compute.Statement.{statement}
 use Rattle.execution.proofs.compute.compute.Tie as tie
 
 at-nop : tie.Need-returns
-at-nop c = record { there = does-nothing _ _ _ _ _ _ _ (c .before .enum-told .given .1) (c .plain .ensures); whole = c .before .before .before .before .before .pre .whole }
+at-nop c = record { there = does-nothing _ _ _ _ _ _ _ (c .before .enum-told .given .1) (c .normal .ensures); whole = c .before .before .before .before .before .pre .whole }
 
 at-stop : tie.Need-returns-2
 at-stop c = record { there = stops _ _ _ _ _ _ _ (c .before .enum-told2 .given .1) (c .stop .ensures); whole = c .before .before .before .before .before .pre .whole }
 
 at-ld : tie.Need-returns-3
-at-ld c = record { there = copies _ _ _ _ _ _ _ (c .before .enum-told3 .given .1) (c .plain2 .ensures); whole = c .before .before .before .before .before .pre .whole }
+at-ld c = record { there = copies _ _ _ _ _ _ _ (c .before .enum-told3 .given .1) (c .normal2 .ensures); whole = c .before .before .before .before .before .pre .whole }
 
 at-ldsphl : tie.Need-returns-4
 at-ldsphl c = record { there = loads-sp _ _ _ _ _ _ _ _ _ _ (c .before .before .before .before .enum-told4 .given .1) (c .before .before .ld-sp-hl .ensures .there); whole = c .before .before .ld-sp-hl .ensures .whole }

@@ -34,10 +34,10 @@ at-bit : tie.Need-returns-10
 at-bit c = record { there = tests _ _ _ _ _ _ _ _ _ (c .before .before .before .before .before .before .before .pre .holds .can) (c .before .before .before .opcode .given .1) (c .before .bit .ensures) (c .with-flags .ensures); whole = c .before .before .before .before .before .before .before .pre .whole }
 
 at-res : tie.Need-returns-11
-at-res c = record { there = clears _ _ _ _ _ _ _ _ _ (c .before .before .before .before .before .before .before .pre .holds .can) (c .before .before .before .opcode2 .given .1) (c .before .res .ensures) (c .plain .ensures); whole = c .before .before .before .before .before .before .before .pre .whole }
+at-res c = record { there = clears _ _ _ _ _ _ _ _ _ (c .before .before .before .before .before .before .before .pre .holds .can) (c .before .before .before .opcode2 .given .1) (c .before .res .ensures) (c .normal .ensures); whole = c .before .before .before .before .before .before .before .pre .whole }
 
 at-set : tie.Need-returns-12
-at-set c = record { there = raises _ _ _ _ _ _ _ _ _ (c .before .before .before .before .before .before .before .pre .holds .can) (c .before .before .before .opcode3 .given .1) (c .before .set .ensures) (c .plain2 .ensures); whole = c .before .before .before .before .before .before .before .pre .whole }
+at-set c = record { there = raises _ _ _ _ _ _ _ _ _ (c .before .before .before .before .before .before .before .pre .holds .can) (c .before .before .before .opcode3 .given .1) (c .before .set .ensures) (c .normal2 .ensures); whole = c .before .before .before .before .before .before .before .pre .whole }
 
 at-illegal : tie.Need-returns-13
 at-illegal c = record { there = refuses _ _ _ _ _ _ _ (c .before .enum-told10 .given .1) (c .illegal .ensures); whole = c .before .before .before .before .before .pre .whole }

@@ -8,7 +8,7 @@ holding : tie.Need-returns
 holding c = record { there = held _ _ _ _ _ _ _ _ _ _ (c .before .before .before .before .before .before .before .before .before .check-cond .ensures) (c .before .before .before .before .before .before .before .before .if1 .taken) (jumped-by _ _ _ _ _ _ _ _ _ _ _ (c .before .before .before .before .before .before .idle .ensures) (c .before .is-unconditional .ensures) (c .before .before .wrapping-add .ensures) (c .jump .ensures)); whole = c .before .before .before .before .before .before .idle .ensures .whole }
 
 not-holding : tie.Need-returns-2
-not-holding c = record { there = not-held _ _ _ _ _ _ _ (c .before .before .check-cond .ensures) (c .before .if1 .left) (c .plain .ensures); whole = c .before .before .before .before .before .pre }
+not-holding c = record { there = not-held _ _ _ _ _ _ _ (c .before .before .check-cond .ensures) (c .before .if1 .left) (c .normal .ensures); whole = c .before .before .before .before .before .pre }
 
 pub jr-spec : {M : Type 1} → statement M
 jr-spec = tie.close (tie.spec (λ c κs. search needs) (λ c κs. search needs) (λ c κs. search needs) (λ c κs. search needs) (λ c κs. search needs) (λ c κs. search needs) (λ c. search needs) holding not-holding)

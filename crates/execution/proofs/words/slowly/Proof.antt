@@ -5,7 +5,7 @@ use Rattle.execution.proofs.words.slowly.Statement.{statement}
 use Rattle.execution.proofs.words.slowly.Tie as tie
 
 returns : tie.Need-returns
-returns c = record { there = slow _ _ _ _ _ _ _ (c .before .before .before .idle .ensures) (c .plain .ensures); whole = c .before .before .before .idle .ensures .whole }
+returns c = record { there = slow _ _ _ _ _ _ _ (c .before .before .before .idle .ensures) (c .normal .ensures); whole = c .before .before .before .idle .ensures .whole }
 
 pub slowly-spec : {M : Type 1} → statement M
 slowly-spec = tie.close (tie.spec (λ c κs. search needs) (λ c κs. search needs) (λ c. search needs) returns)

@@ -32,7 +32,7 @@ same-length c = c .before .before .before .before .before .before .before .next-
 returns : tie.Need-returns Inv-loop μ-loop
 returns c =
     stops-early behind stands-behind _ _ _ _ _ _ _ _ (c .before .before .before .before .before .before .before .before .before .before .before .before .loop .inv) _ _ _ _ (omega (arith, c .before .before .before .before .before .before .before .before .before .before .before .before .before .before .before .before .fits .budget)) (c .before .before .before .before .before .before .before .before .before .before .before .loop-test .taken) (c .before .before .before .before .before .before .before .next-instruction .ensures .there)
-    (sym (c .before .before .stops .ensures) ∙ c .before .if1 .taken)
+    (sym (c .before .before .stops-run .ensures) ∙ c .before .if1 .taken)
 
 loop-less : tie.Need-loop-less Inv-loop μ-loop
 loop-less c = omega (arith, c .before .before .before .before .before .before .before .before .before .before .loop-test .taken)
@@ -40,7 +40,7 @@ loop-less c = omega (arith, c .before .before .before .before .before .before .b
 loop-again : tie.Need-loop-again Inv-loop μ-loop
 loop-again c =
     goes-on behind stands-behind _ _ _ _ _ _ _ _ (c .before .before .before .before .before .before .before .before .before .before .before .loop .inv) _ _ _ _ (omega (arith, c .before .before .before .before .before .before .before .before .before .before .before .before .before .before .before .fits .budget)) (c .before .before .before .before .before .before .before .before .before .before .loop-test .taken) (c .before .before .before .before .before .before .next-instruction .ensures .there)
-    (sym (c .before .stops .ensures) ∙ c .if1 .left)
+    (sym (c .before .stops-run .ensures) ∙ c .if1 .left)
 
 same-length-2 : tie.Need-same-length-2 Inv-loop μ-loop
 same-length-2 c = c .before .before .loop .inv .long ∙ sym (c .before .before .before .before .before .before .pre .whole)

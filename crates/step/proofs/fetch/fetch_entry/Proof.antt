@@ -2,7 +2,7 @@
 use borrow.Author.Needs.{needs}
 use mathlib.Core.Path.{sym, _∙_}
 use native.Mathlib.Omega.{arith}
-use Rattle.instruction.specs.Entry.{Plain, Prefixed}
+use Rattle.instruction.specs.Entry.{Unprefixed, Prefixed}
 use Rattle.step.proofs.Fetching.{fetches-plain, fetches-prefixed}
 use Rattle.step.proofs.fetch.fetch_entry.Statement.{statement}
 use Rattle.step.proofs.fetch.fetch_entry.Tie as tie
@@ -16,7 +16,7 @@ returns c =
     (omega (arith, second .ok)) (c .before .before .before .before .before .before .before .before .before .before .before .before .before .before .before .before .before .before .before .before .before .pre .holds .prefixed _ (omega (arith, second .ok))) (λ i. omega (arith, c .before .before .before .before .slice-known3 .given i)) (omega (arith, second .ok)) (second .ensures .whole)
 
 returns-2 : tie.Need-returns-2
-unfolding Plain
+unfolding Unprefixed
 returns-2 c =
     let first = c .before .before .before .before .before .before .before .before .before .fetch-next-pc in
     fetches-plain _ _ _ _ _ _ _ _ (c .before .before .before .before .before .before .before .before .before .before .before .before .before .enable .ensures) (first .ensures .there) _ _ (c .before .before .before .before .unbug .ensures) (omega (arith, first .ok))

@@ -9,7 +9,7 @@ rest-requires : tie.Need-rest-requires
 rest-requires c κs = record { whole = c .before .before .before .before .pre; holds = sym (c .before .before .is-asleep .ensures) ∙ c .before .if1 .taken }
 
 returns : tie.Need-returns
-returns c = c .before .before .rest .ensures
+returns c = c .before .before .idle-asleep .ensures
 
 returns-2 : tie.Need-returns-2
 returns-2 c = record { there = not-asleep _ _ _ _ (c .before .is-asleep .ensures) (c .if1 .left); whole = c .before .before .before .pre }

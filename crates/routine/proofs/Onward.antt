@@ -32,8 +32,8 @@ Ends K Q (peek f) = (i : NextInterrupt) → Ends K Q (f i)
 Ends K Q (writeAndTake a v f) = ⊥
 
 -- Quiet, as a product that a change of registers other than F leaves as it is
-abbrev pub Calm : Cpu → Type 0
-Calm s = (s .stopped ≡ false) × (s .hdma ≡ false) × (s .halt ≡ NotHalting) × (s .ime ≡ false) × (s .latch ≡ false) × (flags s % 16 ≡ 0)
+abbrev pub QuietParts : Cpu → Type 0
+QuietParts s = (s .stopped ≡ false) × (s .hdma ≡ false) × (s .halt ≡ NotHalting) × (s .ime ≡ false) × (s .latch ≡ false) × (flags s % 16 ≡ 0)
 
 -- an address so many bytes on
 abbrev pub skipped : ℕ → ℕ → ℕ
@@ -42,7 +42,7 @@ skipped (suc k) a = skipped k (next a)
 
 -- the end of an instruction that leaves PC at p
 abbrev pub LeftAt : ℕ → Ended → Type 0
-LeftAt p e = T (isFine (e .outcome)) × Calm (e .cpu) × (pc (e .cpu) ≡ p)
+LeftAt p e = T (isFine (e .outcome)) × QuietParts (e .cpu) × (pc (e .cpu) ≡ p)
 
 abbrev normally : Cpu → Ended
 normally s = record { outcome = Normal; cpu = s }
@@ -52,7 +52,7 @@ done u s = ended Normal s
 
 -- F may change, if its low bits are 0.
 
-withFlags : (s : Cpu) (f : ℕ) → Calm s → f % 16 ≡ 0 → Calm (setF f s)
+withFlags : (s : Cpu) (f : ℕ) → QuietParts s → f % 16 ≡ 0 → QuietParts (setF f s)
 withFlags s f c low = (c .0, c .1, c .2, c .3, c .4, low)
 
 module _ (K : ℕ → ℕ → Type 0) (Q : Ended → Type 0) where
@@ -79,7 +79,7 @@ module _ (K : ℕ → ℕ → Type 0) {p : ℕ} where
   put8-ends [HL] v s h = h
   put8-ends rA v s h = h
 
-  pub prefixed-ends : (i : Prefixed) (s : Cpu) → Calm s → pc s ≡ p → Ends K (LeftAt p) (prefixed i s done)
+  pub prefixed-ends : (i : Prefixed) (s : Cpu) → QuietParts s → pc s ≡ p → Ends K (LeftAt p) (prefixed i s done)
   unfolding prefixed
   prefixed-ends (SHIFT-r8 op to) s c e = get8-ends K _ to s _ (λ x. put8-ends to _ _ (tt, withFlags s _ c (shift-obeys op x (flags s) .low-bits (c .5)), e))
   prefixed-ends (BIT-u3-r8 n from) s c e = get8-ends K _ from s _ (λ x. (tt, withFlags s _ c (omega arith), e))
@@ -109,7 +109,7 @@ module _ {p : ℕ} where
   moved-left [HL+] s h = h
   moved-left [HL-] s h = h
 
-pub work-ends : (K : ℕ → ℕ → Type 0) (w : Work) (s : Cpu) → Calm s → Ends K (LeftAt (skipped (workOperands w) (pc s))) (work w s done)
+pub work-ends : (K : ℕ → ℕ → Type 0) (w : Work) (s : Cpu) → QuietParts s → Ends K (LeftAt (skipped (workOperands w) (pc s))) (work w s done)
 unfolding executing
 work-ends K NOP s c = (tt, c, refl)
 work-ends K DI s c = (tt, (c .0, c .1, c .2, refl, c .4, c .5), refl)

@@ -15,7 +15,7 @@ use Rattle.routine.specs.Flow.{instructionAt}
 use Rattle.routine.specs.Screen.{marksFrom, screen}
 use Rattle.routine.proofs.Marks.{marks-length}
 use Rattle.routine.proofs.Before.{window}
-use Rattle.routine.proofs.Answers.{when-passed}
+use Rattle.routine.proofs.WholeScreen.{when-passed}
 use Rattle.map.specs.declared.kinds.Cell.{Cell}
 use Rattle.map.specs.Opcode.{isJump}
 use Rattle.map.specs.Counts.{startsAt, howMany, countsOf}

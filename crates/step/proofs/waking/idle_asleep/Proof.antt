@@ -2,8 +2,8 @@
 use borrow.Author.Needs.{needs}
 use mathlib.Core.Path.{refl, sym, _∙_}
 use Rattle.step.proofs.Stepping.{still-asleep, woken-dmg, woken-cgb}
-use Rattle.step.proofs.waking.rest.Statement.{statement}
-use Rattle.step.proofs.waking.rest.Tie as tie
+use Rattle.step.proofs.waking.idle_asleep.Statement.{statement}
+use Rattle.step.proofs.waking.idle_asleep.Tie as tie
 
 returns : tie.Need-returns
 returns c =
@@ -30,8 +30,8 @@ returns-3 c =
     let none = sym (c .before .is-pending .ensures) ∙ c .if1 .left in
     record { there = still-asleep _ _ _ _ refl _ _ _ _ (start .pre .holds) (idle .ensures) (peek .ensures) none; whole = peek .ensures .whole }
 
-pub rest-spec : {M : Type 1} → statement M
-rest-spec =
+pub idle-asleep-spec : {M : Type 1} → statement M
+idle-asleep-spec =
     tie.close
     (tie.spec
     (λ c κs. search needs) (λ c κs. search needs) (λ c κs. search needs) (λ c κs. search needs) (λ c κs. search needs) (λ c. search needs) returns (λ c. search needs) returns-2 (λ c. search needs) returns-3)
