@@ -7,12 +7,13 @@ use lib.Dec.{T}
 use lib.ListN.{length}
 use Rattle.sm83.specs.declared.Cpu.{Cpu}
 use Rattle.outcome.specs.declared.Outcome.{Outcome}
-use Rattle.outcome.specs.declared.Outcome.the-variants.{Normal, InfiniteLoop, Halting, RunningHDMA, Stopped, RunningInterrupt, Breakpoint, Refused}
+use Rattle.outcome.specs.declared.Outcome.the-variants.{Normal}
 use Rattle.sm83.specs.Basics.{next}
 use Rattle.definition.specs.Bus.{Access, Read, Write, Idle, WriteAndTake}
 use Rattle.sm83.specs.State.{pc, flags}
 use Rattle.definition.specs.Step.{Ended}
 use Rattle.opcodes.specs.Published.{FlagColumn, keep}
+use Rattle.definition.proofs.Refused.{isRefused}
 use Rattle.opcodes.proofs.FlagLaws.{Obeys, same-obeys}
 
 -- so many bytes further, one after the other
@@ -28,16 +29,6 @@ Begins (suc k) a (Read c x ∷ l) = (x ≡ a) × Begins k (next a) l
 Begins (suc k) a (Write c x v ∷ l) = ⊥
 Begins (suc k) a (Idle ∷ l) = ⊥
 Begins (suc k) a (WriteAndTake x v ∷ l) = ⊥
-
-abbrev pub isRefused : Outcome → Bool
-isRefused Normal = false
-isRefused InfiniteLoop = false
-isRefused Halting = false
-isRefused RunningHDMA = false
-isRefused Stopped = false
-isRefused (RunningInterrupt i) = false
-isRefused (Breakpoint r) = false
-isRefused (Refused r) = true
 
 -- From the PC and F that the first fetch leaves: so many M-cycles and operand bytes more, a jump or not, refused or not, and the flags column.
 pub record Columns (more operands : ℕ) (jumping refused : Bool) (column : FlagColumn) (p f : ℕ) (l : List Access) (e : Ended) : Type 0 where

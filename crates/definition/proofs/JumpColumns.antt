@@ -16,7 +16,8 @@ use Rattle.definition.specs.Step.{Ended, ended}
 use Rattle.opcodes.specs.Published.{keep}
 use Rattle.definition.proofs.Ends.{Ends, ends-if}
 use Rattle.definition.proofs.Cycles.{jumpCycles, takes}
-use Rattle.definition.proofs.Columns.{Columns, isRefused, jumped}
+use Rattle.definition.proofs.Columns.{Columns, jumped}
+use Rattle.definition.proofs.Refused.{isRefused}
 
 -- a jump, taken or not, with some of its accesses before the rest
 abbrev pub Jumping : Cpu → Jump → Bool → (List Access → List Access) → List Access → Ended → Type 0

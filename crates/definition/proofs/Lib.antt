@@ -20,6 +20,7 @@ pub mod StepRuns
 pub mod Stopping
 pub mod Agreement
 pub mod LowBits
+pub mod Refused
 pub mod Columns
 pub mod ExecuteColumns
 pub mod PlainCourse

@@ -18,30 +18,21 @@ use Rattle.opcodes.specs.Instruction.{Jump, JP-n16, JP-HL, JR-e8, CALL-n16, RET
 use Rattle.opcodes.specs.Instruction.{Instruction, does, goes, CB-prefix, HALT, STOP, EI, LD-B-B, ILLEGAL, decodeCB}
 use Rattle.definition.specs.Execution.{Does, _>>=_, _>>_, change, peek, byteAtPC, work, prefixed, jump, execute, executing}
 use Rattle.definition.specs.Step.{Ended, ended}
+use Rattle.definition.proofs.Refused.{isRefused}
 use Rattle.definition.proofs.Compose.{bind}
 use Rattle.definition.proofs.Parts.{left, work-alone, prefixed-alone}
 use Rattle.opcodes.proofs.Illegal.{isIllegal}
 
-abbrev pub refuses : Outcome → Bool
-refuses Normal = false
-refuses InfiniteLoop = false
-refuses Halting = false
-refuses RunningHDMA = false
-refuses Stopped = false
-refuses (RunningInterrupt i) = false
-refuses (Breakpoint r) = false
-refuses (Refused r) = true
-
 -- no end is a refusal
 abbrev pub Never : Ask Ended → Type 0
-Never (answer e) = T (not (refuses (e .outcome)))
+Never (answer e) = T (not (isRefused (e .outcome)))
 Never (read k a f) = (v : ℕ) → Never (f v)
 Never (write k a v p) = Never p
 Never (idle p) = Never p
 Never (bus.peek f) = (i : NextInterrupt) → Never (f i)
 Never (writeAndTake a v f) = (i : NextInterrupt) → Never (f i)
 
-pub never-run : {W : Type 0} (b : Bus W) (p : Ask Ended) (m : W) → Never p → T (not (refuses (runOn b p m .value .outcome)))
+pub never-run : {W : Type 0} (b : Bus W) (p : Ask Ended) (m : W) → Never p → T (not (isRefused (runOn b p m .value .outcome)))
 unfolding runOn
 never-run b (answer e) m h = h
 never-run b (read k a f) m h = never-run b (f (b .sees m a)) (b .afterRead k m a) (h (b .sees m a))
@@ -65,7 +56,7 @@ pub never-either : (t : Bool) (p q : Does Ended Outcome) (s : Cpu) → Never (p 
 never-either true p q s hp hq = hp
 never-either false p q s hp hq = hq
 
-never-loop : (t : Bool) → T (not (refuses (if t then InfiniteLoop else Normal)))
+never-loop : (t : Bool) → T (not (isRefused (if t then InfiniteLoop else Normal)))
 never-loop true = tt
 never-loop false = tt
 

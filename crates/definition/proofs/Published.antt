@@ -18,7 +18,8 @@ use Rattle.opcodes.specs.Published.{FlagColumn, oneOf, illegalOpcodes, publishe
 use Rattle.opcodes.proofs.Choices.{if-so, if-not}
 use Rattle.opcodes.proofs.FlagLaws.{Obeys}
 use Rattle.definition.proofs.Cycles.{jumps}
-use Rattle.definition.proofs.Columns.{Begins, ahead, isRefused}
+use Rattle.definition.proofs.Columns.{Begins, ahead}
+use Rattle.definition.proofs.Refused.{isRefused}
 use Rattle.definition.proofs.ExecuteColumns.{executed}
 use Rattle.opcodes.proofs.Illegal.{isIllegal, illegal-is, illegal-bytes}
 use Rattle.definition.proofs.Agreement.{bytes-agree, cycles-agree, flags-agree}

@@ -11,7 +11,7 @@ use Rattle.definition.specs.Step.{Ended, stepOn}
 use Rattle.definition.specs.Run.{RunAnswer, runFor}
 use Rattle.routine.specs.Screen.{screen}
 use Rattle.run.specs.declared.Ran.{Ran}
-use Rattle.run.specs.Ran.{runAnswer}
+use Rattle.run.specs.Answers.{runAnswer}
 use Rattle.run.specs.declared.Stepped.{Stepped}
 use Rattle.screen.proofs.screen.Reads as the-screen
 use Rattle.run.proofs.step.Reads as the-step

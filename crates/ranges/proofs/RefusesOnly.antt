@@ -25,7 +25,8 @@ use Rattle.outcome.specs.Numbers.{numberOf}
 use Rattle.definition.specs.Run.{runFor}
 use Rattle.outcome.specs.declared.LastOutcome.the-variants.{Last}
 use Rattle.definition.proofs.Course.{Woke, Passed, Course, point1, point2, point3, point4, points5to7, course, woke-pc}
-use Rattle.definition.proofs.NeverRefuses.{refuses, never-run, execute-never}
+use Rattle.definition.proofs.Refused.{isRefused}
+use Rattle.definition.proofs.NeverRefuses.{never-run, execute-never}
 use Rattle.opcodes.proofs.Illegal.{isIllegal, illegal-is}
 use Rattle.definition.proofs.Refusals.{isAccepted, pc-enabled, accepts}
 use Rattle.definition.proofs.PlainCourse.{woke-same, passed-same}
@@ -49,10 +50,10 @@ refusalNumber (RunningInterrupt i) = 0
 refusalNumber (Breakpoint r) = 0
 refusalNumber (Refused r) = numberOf r
 
-not-refused : {o : Outcome} {r : Refusal} → T (not (refuses o)) → o ≡ Refused r → ⊥
-not-refused h e = subst (λ (x : Outcome). T (not (refuses x))) e h
+not-refused : {o : Outcome} {r : Refusal} → T (not (isRefused o)) → o ≡ Refused r → ⊥
+not-refused h e = subst (λ (x : Outcome). T (not (isRefused x))) e h
 
-interrupt-not-refused : (i : NextInterrupt) → T (not (refuses (dispatchedAs i)))
+interrupt-not-refused : (i : NextInterrupt) → T (not (isRefused (dispatchedAs i)))
 interrupt-not-refused NonePending = tt
 interrupt-not-refused (Pending i) = tt
 

@@ -18,7 +18,8 @@ use Rattle.definition.specs.Step.{isAsleep, isBug, step, awake, instruction, fe
 use Rattle.routine.specs.Flow.{classAt, instructionAt, flowAt, past, endsRoutine, returns}
 use Rattle.routine.specs.Rules.{Start, at-first, after, Rules}
 use Rattle.routine.specs.Trace.{isFine}
-use Rattle.routine.proofs.Onward.{Ends, QuietParts, skipped}
+use Rattle.definition.proofs.Columns.{ahead}
+use Rattle.routine.proofs.Onward.{Ends, QuietParts}
 use Rattle.routine.proofs.Moves.{Moves, on, jumps, back, LeftBy, weaker, execute-ends}
 use Rattle.routine.proofs.Keeper.{WindowSays}
 
@@ -43,9 +44,9 @@ calm-step s c =
     fetching : Cpu → Ask Ended
     fetching t = read Fetch (pc t) (λ v. execute (pc t) (decode v) (fetched t) ended)
 
-skipped-is : (k a : ℕ) → a + k < 65536 → skipped k a ≡ a + k
-skipped-is zero a h = omega arith
-skipped-is (suc k) a h = let e : next a ≡ a + 1 = omega arith in ap (skipped k) e ∙ skipped-is k (a + 1) (omega arith) ∙ omega arith
+ahead-is : (k a : ℕ) → a + k < 65536 → ahead k a ≡ a + k
+ahead-is zero a h = omega arith
+ahead-is (suc k) a h = let e : next a ≡ a + 1 = omega arith in ap (ahead k) e ∙ ahead-is k (a + 1) (omega arith) ∙ omega arith
 
 module _ (m : List ℕ) (first n : ℕ) where
   pub not-before : {a : ℕ} → Start m first (first + n) a → first ≤ a
@@ -73,7 +74,7 @@ module _ (m : List ℕ) (first n : ℕ) (small : first + n ≤ 65536) (rules : R
       let there : Start m first (first + n) (past m a) = goes-on a start h in
       let low : past m a < first + n = within m first n there in
       let here : next a ≡ a + 1 = omega arith in
-      subst⁻¹ (Start m first (first + n)) (e ∙ ap (skipped (operands (instructionAt m a))) here ∙ skipped-is (operands (instructionAt m a)) (a + 1) (omega arith)) there
+      subst⁻¹ (Start m first (first + n)) (e ∙ ap (ahead (operands (instructionAt m a))) here ∙ ahead-is (operands (instructionAt m a)) (a + 1) (omega arith)) there
   arrives a f to start stays (jumps where-to) = rules .lands a to start where-to
   arrives a f to start stays (back taken) = absurd (T-not (returns (instructionAt m a) f) stays taken)
 

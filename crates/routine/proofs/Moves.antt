@@ -18,11 +18,12 @@ use Rattle.definition.specs.Execution.{Does, work, prefixed, jump, execute, exe
 use Rattle.definition.specs.Step.{Ended, ended}
 use Rattle.routine.specs.Flow.{classOf, Flow, GoesTo, GoesToOrNext, flowOf, isForbidden, endsRoutine, returns}
 use Rattle.routine.specs.Trace.{isFine}
-use Rattle.routine.proofs.Onward.{anything, Ends, QuietParts, skipped, LeftAt, done, prefixed-ends, work-ends}
+use Rattle.definition.proofs.Columns.{ahead}
+use Rattle.routine.proofs.Onward.{anything, Ends, QuietParts, LeftAt, done, prefixed-ends, work-ends}
 
 -- from the instruction i at a, with the bytes x and y after it, at the flags f: on past it, to where it jumps, or back to the caller
 pub data Moves (i : Instruction) (a x y f to : ℕ) : Type 0 where
-  on : to ≡ skipped (operands i) (next a) → T (not (endsRoutine (classOf i))) → Moves i a x y f to
+  on : to ≡ ahead (operands i) (next a) → T (not (endsRoutine (classOf i))) → Moves i a x y f to
   jumps : (flowOf (classOf i) a x y ≡ GoesTo to) ⊎ (flowOf (classOf i) a x y ≡ GoesToOrNext to) → Moves i a x y f to
   back : T (returns i f) → Moves i a x y f to
 
@@ -82,8 +83,8 @@ module _ (K : ℕ → ℕ → Type 0) (a x y : ℕ) where
   jump-ends (RET-cc cc) s c h told = either-way K _ (holds cc (flags s)) _ _ _ (λ t u p v q. (tt, c, back t)) (tt, c, on refl tt)
   jump-ends (RST-vec v) s c h told = absurd h
 
-  onward : (i : Instruction) (f : ℕ) → T (not (endsRoutine (classOf i))) → (p : Ask Ended) → Ends K (LeftAt (skipped (operands i) (next a))) p → Ends K (LeftBy i a x y f) p
-  onward i f goes-on = weaker K (LeftAt (skipped (operands i) (next a))) (LeftBy i a x y f) (λ e left. (left .0, left .1, on (left .2) goes-on))
+  onward : (i : Instruction) (f : ℕ) → T (not (endsRoutine (classOf i))) → (p : Ask Ended) → Ends K (LeftAt (ahead (operands i) (next a))) p → Ends K (LeftBy i a x y f) p
+  onward i f goes-on = weaker K (LeftAt (ahead (operands i) (next a))) (LeftBy i a x y f) (λ e left. (left .0, left .1, on (left .2) goes-on))
 
   pub execute-ends : (i : Instruction) (s : Cpu) → QuietParts s → T (not (isForbidden (classOf i))) → Told i → Ends K (LeftBy i a x y (flags s)) (execute a i (setPC (next a) s) ended)
   unfolding executing

@@ -17,6 +17,7 @@ use Rattle.opcodes.specs.Instruction.{Prefixed, SHIFT-r8, BIT-u3-r8, RES-u3-r8,
 use Rattle.opcodes.proofs.FlagLaws.{alu-obeys, acc-obeys, shift-obeys}
 use Rattle.definition.specs.Execution.{get8, put8, put16, putStacked, moved, work, prefixed, executing}
 use Rattle.definition.specs.Step.{Ended, ended}
+use Rattle.definition.proofs.Columns.{ahead}
 use Rattle.routine.specs.Trace.{isFine}
 
 abbrev pub anything : ℕ → ℕ → Type 0
@@ -34,11 +35,6 @@ Ends K Q (writeAndTake a v f) = ⊥
 -- Quiet, as a product that a change of registers other than F leaves as it is
 abbrev pub QuietParts : Cpu → Type 0
 QuietParts s = (s .stopped ≡ false) × (s .hdma ≡ false) × (s .halt ≡ NotHalting) × (s .ime ≡ false) × (s .latch ≡ false) × (flags s % 16 ≡ 0)
-
--- an address so many bytes on
-abbrev pub skipped : ℕ → ℕ → ℕ
-skipped zero a = a
-skipped (suc k) a = skipped k (next a)
 
 -- the end of an instruction that leaves PC at p
 abbrev pub LeftAt : ℕ → Ended → Type 0
@@ -109,13 +105,13 @@ module _ {p : ℕ} where
   moved-left [HL+] s h = h
   moved-left [HL-] s h = h
 
-pub work-ends : (K : ℕ → ℕ → Type 0) (w : Work) (s : Cpu) → QuietParts s → Ends K (LeftAt (skipped (workOperands w) (pc s))) (work w s done)
+pub work-ends : (K : ℕ → ℕ → Type 0) (w : Work) (s : Cpu) → QuietParts s → Ends K (LeftAt (ahead (workOperands w) (pc s))) (work w s done)
 unfolding executing
 work-ends K NOP s c = (tt, c, refl)
 work-ends K DI s c = (tt, (c .0, c .1, c .2, refl, c .4, c .5), refl)
 work-ends K (LD-r8-r8 to from) s c = get8-ends K _ from s _ (λ v. put8-ends K to v s (tt, c, refl))
 work-ends K (LD-r8-n8 to) s c = λ v _. put8-ends K to v _ (tt, c, refl)
-work-ends K (LD-r16-n16 to) s c = λ x _ y _. put16-left to _ (setPC (skipped 2 (pc s)) s) (tt, c, refl)
+work-ends K (LD-r16-n16 to) s c = λ x _ y _. put16-left to _ (setPC (ahead 2 (pc s)) s) (tt, c, refl)
 work-ends K (LD-[r16]-A by) s c = moved-left by s (tt, c, refl)
 work-ends K (LD-A-[r16] by) s c = λ v _. moved-left by s (tt, c, refl)
 work-ends K LD-[n16]-A s c = λ x _ y _. (tt, c, refl)
@@ -137,4 +133,4 @@ work-ends K (INC-r16 to) s c = put16-left to _ s (tt, c, refl)
 work-ends K (DEC-r16 to) s c = put16-left to _ s (tt, c, refl)
 work-ends K (ADD-HL-r16 from) s c = (tt, withFlags s _ c (omega arith), refl)
 work-ends K (PUSH-r16 from) s c = (tt, c, refl)
-work-ends K (POP-r16 to) s c = λ x _ y _. stacked-left to _ (setSP (skipped 2 (sp s)) s) (tt, c, refl)
+work-ends K (POP-r16 to) s c = λ x _ y _. stacked-left to _ (setSP (ahead 2 (sp s)) s) (tt, c, refl)

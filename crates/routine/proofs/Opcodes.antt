@@ -13,6 +13,7 @@ use Rattle.sm83.specs.Basics.{if_then_else_, next}
 use Rattle.definition.specs.Bus.{byteAt}
 use Rattle.opcodes.specs.Arithmetic.{holds}
 use Rattle.opcodes.specs.Instruction.{cNZ, cZ, cNC, cC, decode, lengthOf}
+use Rattle.opcodes.specs.Published.{oneOf}
 use Rattle.routine.specs.declared.Class.{Class}
 use Rattle.routine.specs.Flow.{classOf, classAt, flowOf, flowAt, isForbidden, endsRoutine, jumpsWhere, returns}
 use Rattle.routine.specs.Rules.{JumpsTo}
@@ -38,10 +39,6 @@ agree {A} f g (suc n) e b low = by (eq-or-lt-of-le (omega arith)) (agree f g n t
     by (inl same) rest = subst⁻¹ (λ (x : ℕ). f x ≡ g x) same heads
     by (inr low) rest = rest low
 
-abbrev pub isOneOf : ℕ → List ℕ → Bool
-isOneOf b [] = false
-isOneOf b (x ∷ l) = eqb b x || isOneOf b l
-
 -- "Forbidden: the eleven of refusal 3, STOP, HALT, EI, RETI, JP HL, every CALL and RST", a line each for the eleven, the five, CALL and RST
 abbrev pub forbiddenBytes : List ℕ
 forbiddenBytes =
@@ -61,7 +58,7 @@ jumpingBytes = 0xc3 ∷ 0xc2 ∷ 0xca ∷ 0xd2 ∷ 0xda ∷ 0x18 ∷ 0x20 ∷ 0x
 -- a return at the flags f: RET and RETI always, RET NZ, RET Z, RET NC and RET C if the condition holds
 abbrev pub returnsByte : ℕ → ℕ → Bool
 returnsByte b f =
-    if isOneOf b (0xc9 ∷ 0xd9 ∷ []) then true else
+    if oneOf (0xc9 ∷ 0xd9 ∷ []) b then true else
     (if eqb b 0xc0 then holds cNZ f else
     (if eqb b 0xc8 then holds cZ f else
     (if eqb b 0xd0 then holds cNC f else
@@ -88,30 +85,30 @@ bytesOfTwo =
     ∷ 0xc6 ∷ 0xce ∷ 0xd6 ∷ 0xde ∷ 0xe6 ∷ 0xee ∷ 0xf6 ∷ 0xfe ∷ 0xe0 ∷ 0xf0 ∷ 0xe8 ∷ 0xf8 ∷ 0xcb ∷ []
 
 abbrev pub lengthOfByte : ℕ → ℕ
-lengthOfByte b = if isOneOf b bytesOfThree then 3 else (if isOneOf b bytesOfTwo then 2 else 1)
+lengthOfByte b = if oneOf bytesOfThree b then 3 else (if oneOf bytesOfTwo b then 2 else 1)
 
 -- Of the instruction at an address, whatever bytes follow it. A byte is below 256.
 module _ (m : List ℕ) (a : ℕ) (is-byte : byteAt m a < 256) where
   of-class : (test : Class → Bool) (of-byte : ℕ → Bool) → values (λ b. test (classOf (decode b))) 256 ≡ values of-byte 256 → test (classAt m a) ≡ of-byte (byteAt m a)
   of-class test of-byte e = agree (λ b. test (classOf (decode b))) of-byte 256 e (byteAt m a) is-byte
 
-  pub forbidden-bytes : isForbidden (classAt m a) ≡ isOneOf (byteAt m a) forbiddenBytes
+  pub forbidden-bytes : isForbidden (classAt m a) ≡ oneOf forbiddenBytes (byteAt m a)
   unfolding decode
-  forbidden-bytes = of-class isForbidden (λ b. isOneOf b forbiddenBytes) refl
+  forbidden-bytes = of-class isForbidden (λ b. oneOf forbiddenBytes b) refl
 
-  pub ending-bytes : endsRoutine (classAt m a) ≡ isOneOf (byteAt m a) endingBytes
+  pub ending-bytes : endsRoutine (classAt m a) ≡ oneOf endingBytes (byteAt m a)
   unfolding decode
-  ending-bytes = of-class endsRoutine (λ b. isOneOf b endingBytes) refl
+  ending-bytes = of-class endsRoutine (λ b. oneOf endingBytes b) refl
 
-  pub jumping-bytes : ((t : ℕ) × JumpsTo m a t) ↔ T (isOneOf (byteAt m a) jumpingBytes)
+  pub jumping-bytes : ((t : ℕ) × JumpsTo m a t) ↔ T (oneOf jumpingBytes (byteAt m a))
   unfolding decode flowAt
   jumping-bytes = (
-    λ (t, jump). T-not-not (isOneOf (byteAt m a) jumpingBytes) (not-T (not (isOneOf (byteAt m a) jumpingBytes)) (λ h. target-passes (λ x. false) jump (subst⁻¹ T lands-nowhere h))),
-    λ h. let (t, jump, none) = target-fails (λ x. false) (flowAt m a) (rw (lands-nowhere, is-true (isOneOf (byteAt m a) jumpingBytes) h) tt) in (t, jump),
+    λ (t, jump). T-not-not (oneOf jumpingBytes (byteAt m a)) (not-T (not (oneOf jumpingBytes (byteAt m a))) (λ h. target-passes (λ x. false) jump (subst⁻¹ T lands-nowhere h))),
+    λ h. let (t, jump, none) = target-fails (λ x. false) (flowAt m a) (rw (lands-nowhere, is-true (oneOf jumpingBytes (byteAt m a)) h) tt) in (t, jump),
   )
     where
-      lands-nowhere : jumpsWhere (λ x. false) (flowAt m a) ≡ not (isOneOf (byteAt m a) jumpingBytes)
-      lands-nowhere = of-class (λ k. jumpsWhere (λ x. false) (flowOf k a (byteAt m (next a)) (byteAt m (next (next a))))) (λ b. not (isOneOf b jumpingBytes)) refl
+      lands-nowhere : jumpsWhere (λ x. false) (flowAt m a) ≡ not (oneOf jumpingBytes (byteAt m a))
+      lands-nowhere = of-class (λ k. jumpsWhere (λ x. false) (flowOf k a (byteAt m (next a)) (byteAt m (next (next a))))) (λ b. not (oneOf jumpingBytes b)) refl
 
   pub returning-bytes : (f : ℕ) → returns (decode (byteAt m a)) f ≡ returnsByte (byteAt m a) f
   unfolding decode

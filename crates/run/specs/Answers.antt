@@ -1,4 +1,4 @@
--- What pins the answer of a step: its outcome and state, every byte and the M-cycles.
+-- What pins the answer of a run and of a step: the outcome, the state, every byte, the M-cycles; of a run the steps, too.
 use mathlib.Core.Path.{_≡_}
 use mathlib.Core.List.{List}
 use Prim.Native.Nat.{ℕ}
@@ -9,7 +9,13 @@ use Rattle.outcome.specs.declared.LastOutcome.{LastOutcome}
 use Rattle.outcome.specs.declared.LastOutcome.the-variants.{NothingRun, Last}
 use Rattle.definition.specs.Bus.{Performed, plain, mcycles}
 use Rattle.definition.specs.Step.{Ended, stepOn}
+use Rattle.definition.specs.Run.{RunAnswer}
+use Rattle.run.specs.declared.Ran.{Ran}
 use Rattle.run.specs.declared.Stepped.{Stepped}
+
+-- the code's answer to a run with the memory that it leaves, as the definition's: all of it in one equation
+abbrev pub runAnswer : Ran → List ℕ → RunAnswer (List ℕ)
+runAnswer r m = record { last = r .last; cpu = r .cpu; memory = m; steps = r .steps; cycles = r .cycles .0 }
 
 -- the outcome of a run of one step; such a run is never one of which nothing is run
 abbrev pub outcomeOf : LastOutcome → Outcome

@@ -1,3 +1,2 @@
--- TODO: what it states.
-pub mod Ran
+-- What pins the answers of a run and of a step.
 pub mod Answers

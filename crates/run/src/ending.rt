@@ -1,7 +1,7 @@
 // Which outcomes end a run, and a run that is refused before it begins.
 ghost use mathlib.Core.Path.{_≡_};
 ghost use Rattle.definition.specs.Run.{stopsRun, stopsLast, notRun};
-ghost use Rattle.run.specs.Ran.{runAnswer};
+ghost use Rattle.run.specs.Answers.{runAnswer};
 use crate::Ran;
 use outcome::LastOutcome;
 use outcome::Outcome;

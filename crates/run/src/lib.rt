@@ -2,7 +2,7 @@
 ghost use mathlib.Core.Path.{_≡_};
 ghost use Rattle.definition.specs.Bus.{plain};
 ghost use Rattle.definition.specs.Run.{runFor};
-ghost use Rattle.run.specs.Ran.{runAnswer};
+ghost use Rattle.run.specs.Answers.{runAnswer};
 ghost use Rattle.run.specs.Answers.{outcomeOf, StepAnswers};
 use crate::ending::refused;
 use crate::repeat::repeat;

@@ -5,7 +5,7 @@ ghost use Rattle.outcome.specs.declared.LastOutcome.the-variants.{NothingRun};
 ghost use Rattle.sm83.specs.State.{flags};
 ghost use Rattle.definition.specs.Run.{repeated};
 ghost use Rattle.bus.specs.World.{Given, behind};
-ghost use Rattle.run.specs.Ran.{runAnswer};
+ghost use Rattle.run.specs.Answers.{runAnswer};
 use crate::Ran;
 use crate::ending::stops_run;
 use bus::Port;

@@ -12,7 +12,7 @@ use Rattle.definition.specs.Bus.{plain}
 use Rattle.outcome.specs.Numbers.{lastNumber}
 use Rattle.definition.specs.Run.{RunAnswer, runFor}
 use Rattle.run.specs.declared.Ran.{Ran}
-use Rattle.run.specs.Ran.{runAnswer}
+use Rattle.run.specs.Answers.{runAnswer}
 use Rattle.blocks.specs.declared.state.StateRead.{StateRead}
 use Rattle.blocks.specs.declared.state.StateRead.the-variants.{State, Malformed}
 use Rattle.blocks.specs.StateBlock.{stateOf, stateBytes}

@@ -9,7 +9,7 @@ use Rattle.run.specs.declared.Ran.{Ran}
 use Rattle.run.proofs.ending.stops_run.Reads as stops
 use Rattle.run.proofs.ending.stops_last.Reads as stopped
 use Rattle.run.proofs.ending.refused.Reads as refused
-use Rattle.run.specs.Ran.{runAnswer}
+use Rattle.run.specs.Answers.{runAnswer}
 
 pub stops-determined : OneAnswer stops.Post
 stops-determined κs input v w left other p q = p ∙ sym q
