@@ -21,9 +21,9 @@ module _ (port port' : Port) (m m' : List ℕ) (e : port' ≡ counted port) (who
   unfolding leads accessing
   has-written k a v e1 = record { there = λ rest. simp (e, e1); whole = whole }
 
-  pub has-waited : m' ≡ m → Idles port m port' m'
+  pub has-idled : m' ≡ m → Idles port m port' m'
   unfolding leads accessing
-  has-waited e1 = record { there = λ rest. simp (e, e1); whole = whole }
+  has-idled e1 = record { there = λ rest. simp (e, e1); whole = whole }
 
 pub has-peeked : (m m' : List ℕ) (i : NextInterrupt) → i ≡ pending m → m' ≡ m → length m' ≡ 65536 → Peeks m i m'
 unfolding leads accessing

@@ -90,7 +90,7 @@ callIfMade c t = onlyIfMade c (callMade t)
 abbrev pub retMade : {R : Type 0} → Does R Made
 retMade = do return; made 0
 
--- a return that is not sure waits first
+-- a return that is not sure idles first
 abbrev pub retIfMade : {R : Type 0} → Condition → Does R Made
 retIfMade c = do if isUnconditional c then nothing else idle; onlyIfMade c retMade
 

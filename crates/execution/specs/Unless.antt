@@ -1,4 +1,4 @@
--- "RET cc": a return that is not sure waits before its condition is looked at.
+-- "RET cc": a return that is not sure idles before its condition is looked at.
 use mathlib.Core.Bool.{Bool}
 use mathlib.Core.List.{List}
 use Prim.Native.Nat.{ℕ}

@@ -118,7 +118,7 @@ fn ret_now(cpu: Cpu, port: Port, mem: &mut [u8]) -> Worked
     normal(with_registers(s, regs), q, 0)
 }
 
-// A return that is not sure waits before its condition is looked at.
+// A return that is not sure idles before its condition is looked at.
 fn idle_unless(sure: bool, port: Port, mem: &mut [u8]) -> Port
     requires { ⌜ length (now mem) ≡ 65536 ⌝ }
     ensures { λ r. ⌜ IdlesUnless sure port (now (mem .entry)) r (now (mem .exit)) ⌝ }

@@ -1,4 +1,4 @@
-// The operations on words, and PUSH and POP: each waits or uses the stack.
+// The operations on words, and PUSH and POP: each idles or uses the stack.
 ghost use mathlib.Core.Path.{_≡_};
 ghost use lib.ListN.{length};
 ghost use Rattle.bus.specs.Leads.{Runs};

@@ -56,5 +56,5 @@ Prefixed t = (b : ℕ) → b < 256 → rowAt (getD t b 0) b ≡ prefixedRow (dec
 
 -- the two that a step is lent
 pub record Tables (t u : List ℕ) : Type 0 where
-  pub plain : Unprefixed t
+  pub unprefixed : Unprefixed t
   pub prefixed : Prefixed u

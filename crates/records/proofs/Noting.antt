@@ -16,9 +16,9 @@ use Rattle.records.specs.Record.{kindOf, memoryLength, listed, memoryFro
 use Rattle.records.specs.Notes.{counted, fetches, opcodeOf, prefixNoted, fetchNoted, opcodeNoted, runNoted, noted}
 
 -- the opcode that is fetched
-module _ (s m m' : List ℕ) {peek : NextInterrupt} {w f : Bool} (peeked : peek ≡ pending m) (kept : m' ≡ m) (waits : w ≡ isPending peek) (told : f ≡ fetches s w) where
+module _ (s m m' : List ℕ) {peek : NextInterrupt} {w f : Bool} (peeked : peek ≡ pending m) (kept : m' ≡ m) (pends : w ≡ isPending peek) (told : f ≡ fetches s w) where
   decided : {t : Bool} → f ≡ t → fetches s (isPending (pending m)) ≡ t
-  decided h = sym (told ∙ ap (fetches s) (waits ∙ ap isPending peeked)) ∙ h
+  decided h = sym (told ∙ ap (fetches s) (pends ∙ ap isPending peeked)) ∙ h
 
   pub not-fetched : f ≡ false → 1536 ≡ opcodeOf s m
   unfolding opcodeOf

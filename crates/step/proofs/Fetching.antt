@@ -62,8 +62,8 @@ module _ (s u t : Cpu) (port port' : Port) (m m' : List ℕ) (b : ℕ) (e : u �
     from-here : LeadsTo instruction s port m (execute (pc u) (decode b)) v port' m'
     from-here k = one-byte k ∙ ap (λ (w : Cpu). leads (execute (pc u) (decode b) w k) (world port' m')) (sym ev)
 
-    pub fetches-plain : b < 256 → (b ≡ 0xcb → ⊥) → i ≡ rowOf (decode b) → Bytes m' → ByteRegisters (v .registers) → length m' ≡ 65536 → Fetches s port m (pc u) i v port' m'
-    fetches-plain small ne ei bytes regs whole = rw ei (record { left = record { there = leading; whole = whole }; can-run = row-runs b small (ne-eqb b 0xcb ne) .1 })
+    pub fetches-unprefixed : b < 256 → (b ≡ 0xcb → ⊥) → i ≡ rowOf (decode b) → Bytes m' → ByteRegisters (v .registers) → length m' ≡ 65536 → Fetches s port m (pc u) i v port' m'
+    fetches-unprefixed small ne ei bytes regs whole = rw ei (record { left = record { there = leading; whole = whole }; can-run = row-runs b small (ne-eqb b 0xcb ne) .1 })
       where
         leading : LeadsTo instruction s port m (execRow (rowOf (decode b)) (pc u)) v port' m'
         leading k = from-here k ∙ sym (row-leads (world port' m') bytes (pc u) v regs k (decode b) (row-runs b small (ne-eqb b 0xcb ne) .0))

@@ -45,11 +45,11 @@ pub fn unbug(cpu: Cpu, at: Addr) -> Cpu
 pub fn fetch_entry(
     cpu: Cpu,
     port: Port,
-    plain: &[u32; 256],
+    table: &[u32; 256],
     prefixed: &[u32; 256],
     mem: &mut [u8],
 ) -> Fetched
-    requires { ⌜ Given (now mem) (Tables (now plain) (now prefixed)) ⌝ }
+    requires { ⌜ Given (now mem) (Tables (now table) (now prefixed)) ⌝ }
     ensures { λ r. ⌜ Fetches cpu port (now (mem .entry)) (r .at .0) (rowAt (r .entry) (r .byte)) (r .cpu) (r .port) (now (mem .exit)) ⌝ }
 {
     let c = enable(cpu);
@@ -74,7 +74,7 @@ pub fn fetch_entry(
     Fetched {
         cpu: s,
         port: p,
-        entry: plain[x.value as usize],
+        entry: table[x.value as usize],
         byte: x.value,
         at: at,
     }

@@ -40,14 +40,14 @@ pub struct Fetched {
 fn run_one(
     cpu: Cpu,
     port: Port,
-    plain: &[u32; 256],
+    table: &[u32; 256],
     prefixed: &[u32; 256],
     mem: &mut [u8],
 ) -> Executed
-    requires { ⌜ Given (now mem) (Tables (now plain) (now prefixed)) ⌝ }
+    requires { ⌜ Given (now mem) (Tables (now table) (now prefixed)) ⌝ }
     ensures { λ r. ⌜ Runs instruction cpu port (now (mem .entry)) (r .outcome) (r .cpu) (r .port) (now (mem .exit)) ⌝ }
 {
-    let x = fetch_entry(cpu, port, plain, prefixed, mem);
+    let x = fetch_entry(cpu, port, table, prefixed, mem);
     let s = x.cpu;
     let p = x.port;
     let at = x.at;
@@ -59,18 +59,18 @@ fn run_one(
 fn awake(
     cpu: Cpu,
     port: Port,
-    plain: &[u32; 256],
+    table: &[u32; 256],
     prefixed: &[u32; 256],
     mem: &mut [u8],
 ) -> Executed
-    requires { ⌜ Given (now mem) (Tables (now plain) (now prefixed)) ⌝ }
+    requires { ⌜ Given (now mem) (Tables (now table) (now prefixed)) ⌝ }
     ensures { λ r. ⌜ Runs awake cpu port (now (mem .entry)) (r .outcome) (r .cpu) (r .port) (now (mem .exit)) ⌝ }
 {
     let called = is_interrupted(cpu.ime, mem);
     if called {
         dispatch(cpu, port, mem)
     } else {
-        run_one(cpu, port, plain, prefixed, mem)
+        run_one(cpu, port, table, prefixed, mem)
     }
 }
 
@@ -78,11 +78,11 @@ fn awake(
 fn running(
     cpu: Cpu,
     port: Port,
-    plain: &[u32; 256],
+    table: &[u32; 256],
     prefixed: &[u32; 256],
     mem: &mut [u8],
 ) -> Executed
-    requires { ⌜ Given (now mem) (Going cpu (now plain) (now prefixed)) ⌝ }
+    requires { ⌜ Given (now mem) (Going cpu (now table) (now prefixed)) ⌝ }
     ensures { λ r. ⌜ Runs step cpu port (now (mem .entry)) (r .outcome) (r .cpu) (r .port) (now (mem .exit)) ⌝ }
 {
     let w = wake(cpu, port, mem);
@@ -96,7 +96,7 @@ fn running(
             outcome: Outcome::Halting,
         }
     } else {
-        awake(s, p, plain, prefixed, mem)
+        awake(s, p, table, prefixed, mem)
     }
 }
 
@@ -104,11 +104,11 @@ fn running(
 pub fn next_instruction(
     cpu: Cpu,
     port: Port,
-    plain: &[u32; 256],
+    table: &[u32; 256],
     prefixed: &[u32; 256],
     mem: &mut [u8],
 ) -> Executed
-    requires { ⌜ Given (now mem) (Tables (now plain) (now prefixed)) ⌝ }
+    requires { ⌜ Given (now mem) (Tables (now table) (now prefixed)) ⌝ }
     ensures { λ r. ⌜ Runs step cpu port (now (mem .entry)) (r .outcome) (r .cpu) (r .port) (now (mem .exit)) ⌝ }
 {
     let stopped = cpu.stopped;
@@ -129,5 +129,5 @@ pub fn next_instruction(
             outcome: Outcome::RunningHDMA,
         };
     }
-    running(cpu, port, plain, prefixed, mem)
+    running(cpu, port, table, prefixed, mem)
 }

@@ -56,7 +56,7 @@ pub idled-unless : (s : Cpu) (port port' : Port) (m m' : List ℕ) (sure : Bool)
 idled-unless s port port' m m' true h k = h .there (k tt s)
 idled-unless s port port' m m' false h k = h .there (k tt s)
 
--- the condition of a return, after the wait that a sure return does without
+-- the condition of a return, after the idle access that a sure return does without
 pub returned-if : (s t : Cpu) (port port' port'' : Port) (m m' m'' : List ℕ) (a : Made) (c : Condition) (sure : Bool) → sure ≡ isUnconditional c → IdlesUnless sure port m port' m' → Leads (onlyIfMade c retMade) s port' m' a t port'' m'' → Leads (retIfMade c) s port m a t port'' m''
 returned-if s t port port' port'' m m' m'' a c sure e h l =
     after s s t port port' port'' m m' m'' (if isUnconditional c then nothing else idle) (λ _. onlyIfMade c retMade) tt a

@@ -1,4 +1,4 @@
--- Shows the wait of a return that is not sure.
+-- Shows the idle access of a return that is not sure.
 use borrow.Author.Needs.{needs}
 use Rattle.execution.proofs.jumps.idle_unless.Statement.{statement}
 use Rattle.execution.proofs.jumps.idle_unless.Tie as tie
@@ -6,8 +6,8 @@ use Rattle.execution.proofs.jumps.idle_unless.Tie as tie
 sure : tie.Need-returns
 sure c = record { there = λ rest. simp (c .if1 .taken); whole = c .before .before .pre }
 
-waiting : tie.Need-returns-2
-waiting c = rw (c .before .before .before .before .if1 .left) (c .before .before .idle .ensures)
+idling : tie.Need-returns-2
+idling c = rw (c .before .before .before .before .if1 .left) (c .before .before .idle .ensures)
 
 pub idle-unless-spec : {M : Type 1} → statement M
-idle-unless-spec = tie.close (tie.spec (λ c κs. search needs) sure (λ c. search needs) waiting)
+idle-unless-spec = tie.close (tie.spec (λ c κs. search needs) sure (λ c. search needs) idling)

@@ -21,7 +21,7 @@ loop-holds c =
     starts behind stands-behind _ _ _ _ refl (start .pre .whole) (omega (arith, start .good, start .pre .holds), λ i. omega (arith, c .before .before .slice-known .given i))
 
 next-instruction-requires : tie.Need-next-instruction-requires Inv-loop μ-loop
-next-instruction-requires c κs = record { whole = c .before .before .before .before .loop .inv .long; holds = record { plain = c .before .before .before .before .before .before .instructions .ensures; prefixed = c .before .before .before .before .before .prefixed-instructions .ensures } }
+next-instruction-requires c κs = record { whole = c .before .before .before .before .loop .inv .long; holds = record { unprefixed = c .before .before .before .before .before .before .instructions .ensures; prefixed = c .before .before .before .before .before .prefixed-instructions .ensures } }
 
 add-n : tie.Need-add-n Inv-loop μ-loop
 add-n c = omega (arith, c .before .before .before .before .before .before .before .before .loop-test .taken, c .before .before .before .before .before .before .before .before .before .before .before .before .before .fits .budget)

@@ -3,7 +3,7 @@ use borrow.Author.Needs.{needs}
 use mathlib.Core.Path.{sym, _∙_}
 use native.Mathlib.Omega.{arith}
 use Rattle.instruction.specs.Entry.{Unprefixed, Prefixed}
-use Rattle.step.proofs.Fetching.{fetches-plain, fetches-prefixed}
+use Rattle.step.proofs.Fetching.{fetches-unprefixed, fetches-prefixed}
 use Rattle.step.proofs.fetch.fetch_entry.Statement.{statement}
 use Rattle.step.proofs.fetch.fetch_entry.Tie as tie
 
@@ -19,8 +19,8 @@ returns-2 : tie.Need-returns-2
 unfolding Unprefixed
 returns-2 c =
     let first = c .before .before .before .before .before .before .before .before .before .fetch-next-pc in
-    fetches-plain _ _ _ _ _ _ _ _ (c .before .before .before .before .before .before .before .before .before .before .before .before .before .enable .ensures) (first .ensures .there) _ _ (c .before .before .before .before .unbug .ensures) (omega (arith, first .ok))
-    (c .before .before .if1 .left) (c .before .before .before .before .before .before .before .before .before .before .before .before .before .before .before .pre .holds .plain _ (omega (arith, first .ok))) (λ i. omega (arith, c .before .before .before .before .before .before .before .slice-known2 .given i)) (omega (arith, c .before .before .before .before .unbug .ok)) (first .ensures .whole)
+    fetches-unprefixed _ _ _ _ _ _ _ _ (c .before .before .before .before .before .before .before .before .before .before .before .before .before .enable .ensures) (first .ensures .there) _ _ (c .before .before .before .before .unbug .ensures) (omega (arith, first .ok))
+    (c .before .before .if1 .left) (c .before .before .before .before .before .before .before .before .before .before .before .before .before .before .before .pre .holds .unprefixed _ (omega (arith, first .ok))) (λ i. omega (arith, c .before .before .before .before .before .before .before .slice-known2 .given i)) (omega (arith, c .before .before .before .before .unbug .ok)) (first .ensures .whole)
 
 same-length : tie.Need-same-length
 same-length c = c .before .before .before .before .before .before .fetch-next-pc2 .ensures .whole ∙ sym (c .before .before .before .before .before .before .before .before .before .before .before .before .before .before .before .before .before .before .before .before .before .pre .whole)
