@@ -35,13 +35,13 @@ module _ (s : Cpu) (port port' : Port) (m m' : List ℕ) where
   byte-to-hl f hl v to regs t e1 h e2 e3 e4 k = simp (e4, e3, e2, ← e1) (h .there (k tt (onRegisters (writeHL (f hl)) s)))
 
   module _ (port'' : Port) (m'' : List ℕ) (first second : ℕ) where
-    pub pushed : (w : ℕ) → first ≡ back (sp s) → second ≡ back first → Writes Stack first (highByte w) port m port' m' → Writes Stack second (lowByte w) port' m' port'' m'' → Leads (push w) s port m tt (setSP second s) port'' m''
+    pub pushed : (w : ℕ) (t : Cpu) → first ≡ back (sp s) → second ≡ back first → Writes Stack first (highByte w) port m port' m' → Writes Stack second (lowByte w) port' m' port'' m'' → t ≡ setSP second s → Leads (push w) s port m tt t port'' m''
     unfolding push
-    pushed w e1 e2 h1 h2 k = simp (← e1, ← e2) (h1 .there (write Stack second (lowByte w) (k tt (setSP second s))) ∙ h2 .there (k tt (setSP second s)))
+    pushed w t e1 e2 h1 h2 e3 k = simp (e3, ← e1, ← e2) (h1 .there (write Stack second (lowByte w) (k tt (setSP second s))) ∙ h2 .there (k tt (setSP second s)))
 
-    pub popped : (low high w : ℕ) → Reads Stack (sp s) port m low port' m' → first ≡ next (sp s) → Reads Stack first port' m' high port'' m'' → second ≡ next first → w ≡ word high low → Leads pop s port m w (setSP second s) port'' m''
+    pub popped : (low high w : ℕ) (t : Cpu) → Reads Stack (sp s) port m low port' m' → first ≡ next (sp s) → Reads Stack first port' m' high port'' m'' → second ≡ next first → w ≡ word high low → t ≡ setSP second s → Leads pop s port m w t port'' m''
     unfolding pop
-    popped low high w h1 e1 h2 e2 e3 k = simp (e3, ← e1, ← e2) (h1 .there (λ x. read Stack first (λ y. k (word y x) (setSP second s))) ∙ h2 .there (λ y. k (word y low) (setSP second s)))
+    popped low high w t h1 e1 h2 e2 e3 e4 k = simp (e4, e3, ← e1, ← e2) (h1 .there (λ x. read Stack first (λ y. k (word y x) (setSP second s))) ∙ h2 .there (λ y. k (word y low) (setSP second s)))
 
 pub two-bytes : (s t u : Cpu) (port port' port'' : Port) (m m' m'' : List ℕ) (low high w : ℕ) → Leads imm8 s port m low t port' m' → Leads imm8 t port' m' high u port'' m'' → w ≡ word high low → Leads imm16 s port m w u port'' m''
 unfolding imm16

@@ -1,3 +1,2 @@
 -- TODO: laws.
-pub mod Parts
 pub mod Computing

@@ -58,8 +58,8 @@ addSPMade v = do idle; idle; offsetMade v
 unfoldable pub addHLMade : {R : Type 0} → ℕ → Does R Made
 addHLMade v = do idle; w ← regHL; f ← regF; setReg (writeF (wordSumFlags w v f)); made ((w + v) % 65536)
 
-abbrev pub slowlyMade : {R : Type 0} → ℕ → Does R Made
-slowlyMade w = do idle; made w
+abbrev pub afterIdleMade : {R : Type 0} → ℕ → Does R Made
+afterIdleMade w = do idle; made w
 
 -- the stack
 abbrev pub pushMade : {R : Type 0} → ℕ → Does R Made
@@ -112,9 +112,9 @@ compute op.LdBB at v = do r ← reg (λ r. r); ends (Breakpoint r)
 compute op.Push at v = pushMade v
 compute op.Pop at v = popMade
 compute op.Inc at v = do f ← regF; result (increment (lowByte v) f)
-compute op.Inc16 at v = slowlyMade (next v)
+compute op.Inc16 at v = afterIdleMade (next v)
 compute op.Dec at v = do f ← regF; result (decrement (lowByte v) f)
-compute op.Dec16 at v = slowlyMade (back v)
+compute op.Dec16 at v = afterIdleMade (back v)
 compute op.Add at v = aluMade ADD v
 compute op.Add16 at v = addHLMade v
 compute op.AddSPSigned8 at v = addSPMade v

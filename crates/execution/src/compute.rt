@@ -4,7 +4,7 @@ ghost use Rattle.bus.specs.World.{Given};
 ghost use Rattle.bus.specs.Leads.{Runs};
 ghost use Rattle.execution.specs.Mirror.{compute};
 ghost use Rattle.execution.specs.Worked.{madeBy};
-ghost use Rattle.execution.specs.Runnable.{executable, LeftTo};
+ghost use Rattle.execution.specs.Runnable.{executable};
 use crate::Worked;
 use crate::halt::halt;
 use crate::illegal::illegal;
@@ -25,11 +25,11 @@ use crate::results::with_flags;
 use crate::results::with_result;
 use crate::words::add_hl;
 use crate::words::add_sp;
+use crate::words::after_idle;
 use crate::words::ld_hl_sp;
 use crate::words::ld_sp_hl;
 use crate::words::pop_word;
 use crate::words::push_word;
-use crate::words::slowly;
 use arithmetic::decimal::daa;
 use arithmetic::sums::adc;
 use arithmetic::sums::add;
@@ -72,7 +72,7 @@ fn never_executed(cpu: Cpu, port: Port) -> Worked
     normal(cpu, port, 0)
 }
 
-// The match in the order of the Rust, in three parts: up to OR, from JP to RRA, and what follows a prefix.
+// The match in the order of the Rust. PREFIX is never executed: the fetch takes the opcode behind it.
 pub fn compute(cpu: Cpu, port: Port, opcode: Opcode, src: u16, at: Addr, mem: &mut [u8]) -> Worked
     requires { ⌜ Given (now mem) (T (executable opcode)) ⌝ }
     ensures { λ r. ⌜ Runs (compute opcode (at .0) src) cpu port (now (mem .entry)) (madeBy r) (r .cpu) (r .port) (now (mem .exit)) ⌝ }
@@ -83,46 +83,26 @@ pub fn compute(cpu: Cpu, port: Port, opcode: Opcode, src: u16, at: Addr, mem: &m
     let x = (src % 256) as u8;
     match opcode {
         Opcode::Nop => normal(cpu, port, 0),
-        Opcode::Stop => stop(cpu, port),
         Opcode::Ld => normal(cpu, port, src),
+        Opcode::LdBB => breakpoint(cpu, port),
         Opcode::LdSPHL => ld_sp_hl(cpu, port, mem),
         Opcode::LdHLSPSigned8 => ld_hl_sp(cpu, port, src, mem),
-        Opcode::LdBB => breakpoint(cpu, port),
         Opcode::Push => push_word(cpu, port, src, mem),
         Opcode::Pop => pop_word(cpu, port, mem),
+        Opcode::Inc16 => after_idle(cpu, port, Addr(src).wrapping_add(1), mem),
         Opcode::Inc => with_result(cpu, port, inc(x, f)),
-        Opcode::Inc16 => slowly(cpu, port, Addr(src).wrapping_add(1), mem),
+        Opcode::Dec16 => after_idle(cpu, port, Addr(src).wrapping_sub(1), mem),
         Opcode::Dec => with_result(cpu, port, dec(x, f)),
-        Opcode::Dec16 => slowly(cpu, port, Addr(src).wrapping_sub(1), mem),
         Opcode::Add => with_result(cpu, port, add(a, x)),
         Opcode::Add16 => add_hl(cpu, port, src, mem),
         Opcode::AddSPSigned8 => add_sp(cpu, port, src, mem),
         Opcode::Adc => with_result(cpu, port, adc(a, x, f)),
-        Opcode::Cp => with_flags(cpu, port, cp(a, x), a as u16),
         Opcode::Sub => with_result(cpu, port, sub(a, x)),
+        Opcode::Cp => with_flags(cpu, port, cp(a, x), a as u16),
         Opcode::Sbc => with_result(cpu, port, sbc(a, x, f)),
         Opcode::And => with_result(cpu, port, and(a, x)),
         Opcode::Xor => with_result(cpu, port, xor(a, x)),
         Opcode::Or => with_result(cpu, port, or(a, x)),
-        _ => compute_from_jp(cpu, port, opcode, src, at, mem),
-    }
-}
-
-fn compute_from_jp(
-    cpu: Cpu,
-    port: Port,
-    opcode: Opcode,
-    src: u16,
-    at: Addr,
-    mem: &mut [u8],
-) -> Worked
-    requires { ⌜ Given (now mem) (LeftTo 2 opcode) ⌝ }
-    ensures { λ r. ⌜ Runs (compute opcode (at .0) src) cpu port (now (mem .entry)) (madeBy r) (r .cpu) (r .port) (now (mem .exit)) ⌝ }
-{
-    let regs = cpu.registers;
-    let a = regs.a;
-    let f = regs.f;
-    match opcode {
         Opcode::Jp(cond) => jp(cpu, port, cond, src, at, mem),
         Opcode::JpHL => jump(cpu, port, src, at, true),
         Opcode::Jr(cond) => jr(cpu, port, cond, src, at, mem),
@@ -140,27 +120,6 @@ fn compute_from_jp(
         Opcode::Rla => with_a(cpu, port, rla(a, f)),
         Opcode::Rrca => with_a(cpu, port, rrca(a)),
         Opcode::Rra => with_a(cpu, port, rra(a, f)),
-        _ => compute_from_rlc(cpu, port, opcode, src, at, mem),
-    }
-}
-
-// PREFIX is never executed: the fetch takes the opcode behind it. What came before does not come here.
-fn compute_from_rlc(
-    cpu: Cpu,
-    port: Port,
-    opcode: Opcode,
-    src: u16,
-    at: Addr,
-    mem: &mut [u8],
-) -> Worked
-    requires { ⌜ Given (now mem) (LeftTo 3 opcode) ⌝ }
-    ensures { λ r. ⌜ Runs (compute opcode (at .0) src) cpu port (now (mem .entry)) (madeBy r) (r .cpu) (r .port) (now (mem .exit)) ⌝ }
-{
-    let regs = cpu.registers;
-    let f = regs.f;
-    let x = (src % 256) as u8;
-    match opcode {
-        Opcode::Prefix => never_executed(cpu, port),
         Opcode::Rlc => with_result(cpu, port, rlc(x)),
         Opcode::Rrc => with_result(cpu, port, rrc(x)),
         Opcode::Rl => with_result(cpu, port, rl(x, f)),
@@ -172,8 +131,9 @@ fn compute_from_rlc(
         Opcode::Bit(n) => with_flags(cpu, port, bit(n, x, f), 0),
         Opcode::Res(n) => normal(cpu, port, res(n, x) as u16),
         Opcode::Set(n) => normal(cpu, port, set(n, x) as u16),
-        Opcode::Illegal => illegal(cpu, port, at),
         Opcode::Halt => halt(cpu, port, mem),
-        _ => never_executed(cpu, port),
+        Opcode::Stop => stop(cpu, port),
+        Opcode::Illegal => illegal(cpu, port, at),
+        Opcode::Prefix => never_executed(cpu, port),
     }
 }

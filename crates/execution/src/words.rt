@@ -2,7 +2,7 @@
 ghost use mathlib.Core.Path.{_≡_};
 ghost use lib.ListN.{length};
 ghost use Rattle.bus.specs.Leads.{Runs};
-ghost use Rattle.execution.specs.Mirror.{loadSPMade, loadHLMade, addSPMade, addHLMade, slowlyMade, pushMade, popMade};
+ghost use Rattle.execution.specs.Mirror.{loadSPMade, loadHLMade, addSPMade, addHLMade, afterIdleMade, pushMade, popMade};
 ghost use Rattle.execution.specs.Worked.{madeBy, offsetBy};
 use crate::Worked;
 use crate::results::normal;
@@ -65,9 +65,9 @@ pub fn add_hl(cpu: Cpu, port: Port, value: u16, mem: &mut [u8]) -> Worked
 }
 
 // A word after one M-cycle: INC and DEC of a pair.
-pub fn slowly(cpu: Cpu, port: Port, word: Addr, mem: &mut [u8]) -> Worked
+pub fn after_idle(cpu: Cpu, port: Port, word: Addr, mem: &mut [u8]) -> Worked
     requires { ⌜ length (now mem) ≡ 65536 ⌝ }
-    ensures { λ r. ⌜ Runs (slowlyMade (word .0)) cpu port (now (mem .entry)) (madeBy r) (r .cpu) (r .port) (now (mem .exit)) ⌝ }
+    ensures { λ r. ⌜ Runs (afterIdleMade (word .0)) cpu port (now (mem .entry)) (madeBy r) (r .cpu) (r .port) (now (mem .exit)) ⌝ }
 {
     let p = idle(port, mem);
     normal(cpu, p, word.0)

@@ -1,4 +1,3 @@
 -- TODO: laws.
 pub mod Matched
 pub mod Sound
-pub mod Every

@@ -1,42 +1,27 @@
 -- What an entry of the code's two tables stands for, and what the tables have to be.
 use mathlib.Core.Path.{_≡_}
 use mathlib.Core.List.{List, [], _∷_}
-use Prim.Native.Nat.{ℕ, _-_, _*_, _/_, _%_, _<_}
-use lib.Dec.{ltb}
+use Prim.Native.Nat.{ℕ, _*_, _/_, _%_, _<_}
 use lib.ListN.{getD}
-use Rattle.sm83.specs.Basics.{if_then_else_}
 use Rattle.opcodes.specs.Instruction.{decode, decodeCB}
-use Rattle.instruction.specs.declared.OperandType.{OperandType}
-use Rattle.instruction.specs.declared.OperandType.the-variants as ot
 use Rattle.instruction.specs.declared.Condition.{Condition}
-use Rattle.instruction.specs.declared.Condition.the-variants as cn
 use Rattle.instruction.specs.declared.Opcode.{Opcode}
 use Rattle.instruction.specs.declared.Opcode.the-variants as op
 use Rattle.instruction.specs.declared.Instruction.{Instruction}
 use Rattle.instruction.specs.Numbered.{operandAt, conditionAt}
 use Rattle.instruction.specs.Row.{rowOf, prefixedRow}
 
--- The last of each list stands for every number past it.
-
-abbrev pub opcodesUpToEi : Condition → ℕ → List Opcode
-opcodesUpToEi c b =
+-- The opcodes by their numbers; Halt stands for every number past the list.
+abbrev pub opcodes : Condition → ℕ → List Opcode
+opcodes c b =
     op.Nop ∷ op.Stop ∷ op.Ld ∷ op.LdSPHL ∷ op.LdHLSPSigned8 ∷ op.LdBB ∷ op.Push ∷ op.Pop ∷ op.Inc ∷ op.Inc16 ∷ op.Dec ∷
     op.Dec16 ∷ op.Add ∷ op.Add16 ∷ op.AddSPSigned8 ∷ op.Adc ∷ op.Cp ∷ op.Sub ∷ op.Sbc ∷ op.And ∷ op.Xor ∷ op.Or ∷
-    (op.Jp c) ∷ op.JpHL ∷ (op.Jr c) ∷ (op.Call c) ∷ (op.Ret c) ∷ op.Reti ∷ (op.Rst (b / 8 % 8 * 8)) ∷ op.Di ∷ []
-
-abbrev pub opcodeUpToEi : ℕ → Condition → ℕ → Opcode
-opcodeUpToEi n c b = getD (opcodesUpToEi c b) n op.Ei
-
-abbrev pub opcodesFromCcf : ℕ → List Opcode
-opcodesFromCcf b =
+    (op.Jp c) ∷ op.JpHL ∷ (op.Jr c) ∷ (op.Call c) ∷ (op.Ret c) ∷ op.Reti ∷ (op.Rst (b / 8 % 8 * 8)) ∷ op.Di ∷ op.Ei ∷
     op.Ccf ∷ op.Scf ∷ op.Daa ∷ op.Cpl ∷ op.Rlca ∷ op.Rla ∷ op.Rrca ∷ op.Rra ∷ op.Prefix ∷ op.Rlc ∷ op.Rrc ∷
     op.Rl ∷ op.Rr ∷ op.Sla ∷ op.Sra ∷ op.Swap ∷ op.Srl ∷ (op.Bit (b / 8 % 8)) ∷ (op.Res (b / 8 % 8)) ∷ (op.Set (b / 8 % 8)) ∷ op.Illegal ∷ []
 
-abbrev pub opcodeFromCcf : ℕ → ℕ → Opcode
-opcodeFromCcf n b = getD (opcodesFromCcf b) n op.Halt
-
 abbrev pub opcodeAt : ℕ → Condition → ℕ → Opcode
-opcodeAt n c b = if ltb n 31 then opcodeUpToEi n c b else opcodeFromCcf (n - 31) b
+opcodeAt n c b = getD (opcodes c b) n op.Halt
 
 -- an entry, at a byte: six bits of opcode, three of condition, five of destination, five of source
 unfoldable pub rowAt : ℕ → ℕ → Instruction

@@ -1,28 +1,12 @@
-// An instruction of 001, from its byte and a lent table. Its address, which the Rust keeps in it, stands beside it here.
+// An instruction of 001, from its byte and its entry of a table. Its address, which the Rust keeps in it, stands beside it here.
 ghost use mathlib.Core.Path.{_≡_};
-ghost use Rattle.opcodes.specs.Instruction.{decode, decodeCB};
-ghost use Rattle.instruction.specs.Row.{rowOf, prefixedRow};
-ghost use Rattle.instruction.specs.Entry.{rowAt, Unprefixed, Prefixed};
+ghost use Rattle.instruction.specs.Entry.{rowAt};
 use crate::Instruction;
 use crate::conditions::condition_of;
 use crate::numbered::opcode_of;
 use crate::operand::operand_of;
 
 impl Instruction {
-    pub fn from_byte(table: &[u32; 256], byte: u8) -> Instruction
-        requires { ⌜ Unprefixed (now table) ⌝ }
-        ensures { λ r. ⌜ r ≡ rowOf (decode byte) ⌝ }
-    {
-        Instruction::from_entry(table[byte as usize], byte)
-    }
-
-    pub fn from_prefix(table: &[u32; 256], byte: u8) -> Instruction
-        requires { ⌜ Prefixed (now table) ⌝ }
-        ensures { λ r. ⌜ r ≡ prefixedRow (decodeCB byte) ⌝ }
-    {
-        Instruction::from_entry(table[byte as usize], byte)
-    }
-
     // What an entry of either table stands for. A step calls this once, whichever table the entry is from.
     pub fn from_entry(entry: u32, byte: u8) -> Instruction
         ensures { λ r. ⌜ r ≡ rowAt entry byte ⌝ }

@@ -1,22 +1,12 @@
 // What an instruction does, and the numbers by which the tables name it.
 ghost use mathlib.Core.Path.{_≡_};
-ghost use Rattle.instruction.specs.Entry.{opcodeAt, opcodeUpToEi, opcodeFromCcf};
+ghost use Rattle.instruction.specs.Entry.{opcodeAt};
 use crate::Condition;
 use crate::Opcode;
 
 // The three bits that count in the opcodes of RST, BIT, RES and SET are those of the byte itself.
 pub fn opcode_of(n: u8, condition: Condition, byte: u8) -> Opcode
     ensures { λ r. ⌜ r ≡ opcodeAt n condition byte ⌝ }
-{
-    if n < 31 {
-        opcode_up_to_ei(n, condition, byte)
-    } else {
-        opcode_from_ccf(n - 31, byte)
-    }
-}
-
-fn opcode_up_to_ei(n: u8, condition: Condition, byte: u8) -> Opcode
-    ensures { λ r. ⌜ r ≡ opcodeUpToEi n condition byte ⌝ }
 {
     match n {
         0 => Opcode::Nop,
@@ -49,35 +39,28 @@ fn opcode_up_to_ei(n: u8, condition: Condition, byte: u8) -> Opcode
         27 => Opcode::Reti,
         28 => Opcode::Rst(byte / 8 % 8 * 8),
         29 => Opcode::Di,
-        _ => Opcode::Ei,
-    }
-}
-
-fn opcode_from_ccf(n: u8, byte: u8) -> Opcode
-    ensures { λ r. ⌜ r ≡ opcodeFromCcf n byte ⌝ }
-{
-    match n {
-        0 => Opcode::Ccf,
-        1 => Opcode::Scf,
-        2 => Opcode::Daa,
-        3 => Opcode::Cpl,
-        4 => Opcode::Rlca,
-        5 => Opcode::Rla,
-        6 => Opcode::Rrca,
-        7 => Opcode::Rra,
-        8 => Opcode::Prefix,
-        9 => Opcode::Rlc,
-        10 => Opcode::Rrc,
-        11 => Opcode::Rl,
-        12 => Opcode::Rr,
-        13 => Opcode::Sla,
-        14 => Opcode::Sra,
-        15 => Opcode::Swap,
-        16 => Opcode::Srl,
-        17 => Opcode::Bit(byte / 8 % 8),
-        18 => Opcode::Res(byte / 8 % 8),
-        19 => Opcode::Set(byte / 8 % 8),
-        20 => Opcode::Illegal,
+        30 => Opcode::Ei,
+        31 => Opcode::Ccf,
+        32 => Opcode::Scf,
+        33 => Opcode::Daa,
+        34 => Opcode::Cpl,
+        35 => Opcode::Rlca,
+        36 => Opcode::Rla,
+        37 => Opcode::Rrca,
+        38 => Opcode::Rra,
+        39 => Opcode::Prefix,
+        40 => Opcode::Rlc,
+        41 => Opcode::Rrc,
+        42 => Opcode::Rl,
+        43 => Opcode::Rr,
+        44 => Opcode::Sla,
+        45 => Opcode::Sra,
+        46 => Opcode::Swap,
+        47 => Opcode::Srl,
+        48 => Opcode::Bit(byte / 8 % 8),
+        49 => Opcode::Res(byte / 8 % 8),
+        50 => Opcode::Set(byte / 8 % 8),
+        51 => Opcode::Illegal,
         _ => Opcode::Halt,
     }
 }

@@ -1,3 +1,3 @@
--- TODO: what it states.
+-- What operands and destinations are, and what is done with no access.
 pub mod Operands
-pub mod Widths
+pub mod Keeps

@@ -1,15 +1,11 @@
 // Where a result goes.
-ghost use mathlib.Core.Path.{_≡_};
-ghost use mathlib.Core.List.{List};
-ghost use Prim.Native.Nat.{ℕ};
-ghost use lib.Dec.{T, eqb};
-ghost use lib.ListN.{length};
-ghost use Rattle.sm83.specs.State.{onRegisters};
+ghost use lib.Dec.{T};
+ghost use Rattle.definition.specs.Execution.{setReg};
 ghost use Rattle.bus.specs.World.{Given};
-ghost use Rattle.bus.specs.Leads.{Leads, Runs};
+ghost use Rattle.bus.specs.Leads.{Runs};
+ghost use Rattle.operands.specs.Keeps.{Keeps};
 ghost use Rattle.operands.specs.Operands.{writeOperand};
 ghost use Rattle.instruction.specs.Operand.{writable};
-ghost use Rattle.operands.specs.Widths.{both, widthOf};
 use crate::places::write_at16;
 use crate::places::write_high;
 use crate::places::write_hl_dec;
@@ -36,18 +32,18 @@ fn never_written(cpu: Cpu, port: Port) -> Both
     }
 }
 
-// The registers are put back into the state.
+// The registers are put back into the state: no access, whatever memory holds.
 fn left(cpu: Cpu, port: Port, regs: CpuRegisters) -> Both
-    ensures { λ r. ⌜ r ≡ both (onRegisters (λ _. regs) cpu) port ⌝ }
+    ensures { λ r. ⌜ Keeps (setReg (λ _. regs)) cpu port tt (r .cpu) (r .port) ⌝ }
 {
     let s = with_registers(cpu, regs);
     Both { cpu: s, port: port }
 }
 
-// A register of one byte: the low byte of the value.
-fn write_byte(cpu: Cpu, port: Port, ty: OperandType, value: u16) -> Both
-    requires { ⌜ T (eqb (widthOf ty) 1) ⌝ }
-    ensures { λ r. ⌜ ((m : List ℕ) → Leads (writeOperand ty value) cpu port m tt (r .cpu) (r .port) m) ⌝ }
+// A register of one byte takes the low byte of the value.
+pub fn write_operand(cpu: Cpu, port: Port, ty: OperandType, value: u16, mem: &mut [u8]) -> Both
+    requires { ⌜ Given (now mem) (T (writable ty)) ⌝ }
+    ensures { λ r. ⌜ Runs (writeOperand ty value) cpu port (now (mem .entry)) tt (r .cpu) (r .port) (now (mem .exit)) ⌝ }
 {
     let mut regs = cpu.registers;
     let low = (value % 256) as u8;
@@ -80,17 +76,6 @@ fn write_byte(cpu: Cpu, port: Port, ty: OperandType, value: u16) -> Both
             regs.l = low;
             left(cpu, port, regs)
         }
-        _ => never_written(cpu, port),
-    }
-}
-
-pub fn write_operand(cpu: Cpu, port: Port, ty: OperandType, value: u16, mem: &mut [u8]) -> Both
-    requires { ⌜ Given (now mem) (T (writable ty)) ⌝ }
-    ensures { λ r. ⌜ Runs (writeOperand ty value) cpu port (now (mem .entry)) tt (r .cpu) (r .port) (now (mem .exit)) ⌝ }
-{
-    let mut regs = cpu.registers;
-    let low = (value % 256) as u8;
-    match ty {
         OperandType::AddrHL => store(cpu, port, Addr(regs.reg_hl_read()), low, mem),
         OperandType::AddrHLDec => write_hl_dec(cpu, port, value, mem),
         OperandType::AddrHLInc => write_hl_inc(cpu, port, value, mem),
@@ -112,10 +97,6 @@ pub fn write_operand(cpu: Cpu, port: Port, ty: OperandType, value: u16, mem: &mu
         OperandType::HighAddrC => store(cpu, port, high(regs.c), low, mem),
         OperandType::Addr16 => write_at16(cpu, port, value, mem),
         OperandType::Addr16Val16 => write_word_at16(cpu, port, value, mem),
-        OperandType::Implied => Both {
-            cpu: cpu,
-            port: port,
-        },
-        _ => write_byte(cpu, port, ty, value),
+        OperandType::Implied => left(cpu, port, regs),
     }
 }

@@ -1,13 +1,12 @@
 // Where an operand comes from.
 ghost use mathlib.Core.Path.{_≡_};
-ghost use mathlib.Core.List.{List};
-ghost use Prim.Native.Nat.{ℕ};
 ghost use lib.Dec.{T};
 ghost use lib.ListN.{length};
 ghost use Rattle.definition.specs.Execution.{imm8, give};
 ghost use Rattle.instruction.specs.declared.OperandType.the-variants.{AddrHLDec, AddrHLInc, Imm8Signed, HighAddr8, Addr16};
 ghost use Rattle.bus.specs.World.{Given};
-ghost use Rattle.bus.specs.Leads.{Leads, Runs};
+ghost use Rattle.bus.specs.Leads.{Runs};
+ghost use Rattle.operands.specs.Keeps.{Keeps};
 ghost use Rattle.operands.specs.Operands.{readOperand};
 ghost use Rattle.instruction.specs.Operand.{readable};
 use arithmetic::words::sign_extended;
@@ -107,7 +106,7 @@ fn read_at16(cpu: Cpu, port: Port, mem: &mut [u8]) -> Val16
 
 // A value that is at hand: no access, whatever memory holds.
 fn held(cpu: Cpu, port: Port, value: u16) -> Val16
-    ensures { λ r. ⌜ ((m : List ℕ) → Leads (give value) cpu port m (r .value) (r .cpu) (r .port) m) ⌝ }
+    ensures { λ r. ⌜ Keeps (give value) cpu port (r .value) (r .cpu) (r .port) ⌝ }
 {
     Val16 {
         cpu: cpu,

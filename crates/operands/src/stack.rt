@@ -9,6 +9,7 @@ use bus::Port;
 use bus::Val16;
 use sm83::Cpu;
 use sm83::registers::pair;
+use sm83::state::with_registers;
 
 pub fn stack_push(cpu: Cpu, port: Port, value: u16, mem: &mut [u8]) -> Both
     requires { ⌜ length (now mem) ≡ 65536 ⌝ }
@@ -21,8 +22,7 @@ pub fn stack_push(cpu: Cpu, port: Port, value: u16, mem: &mut [u8]) -> Both
     let second = first.wrapping_sub(1);
     let q = bus::write(p, mem, AccessKind::Stack, second, (value % 256) as u8);
     regs.sp = second;
-    let mut s = cpu;
-    s.registers = regs;
+    let s = with_registers(cpu, regs);
     Both { cpu: s, port: q }
 }
 
@@ -39,8 +39,7 @@ pub fn stack_pop(cpu: Cpu, port: Port, mem: &mut [u8]) -> Val16
     let q = high.port;
     let after = second.wrapping_add(1);
     regs.sp = after;
-    let mut s = cpu;
-    s.registers = regs;
+    let s = with_registers(cpu, regs);
     Val16 {
         cpu: s,
         port: q,

@@ -14,6 +14,7 @@ use instruction::prefixed_table::prefixed_instructions;
 use outcome::LastOutcome;
 use sm83::Cpu;
 use sm83::MCycles;
+use sm83::state::fresh;
 use step::next_instruction;
 
 pub fn repeat(cpu: Cpu, mem: &mut [u8], budget: u16) -> Ran
@@ -28,7 +29,8 @@ pub fn repeat(cpu: Cpu, mem: &mut [u8], budget: u16) -> Ran
     let mut n: u16 = 0;
     while n < budget {
         let x = next_instruction(s, p, &table, &prefixed, mem);
-        s = x.cpu;
+        let after = x.cpu;
+        s = fresh(after);
         p = x.port;
         let o = x.outcome;
         last = LastOutcome::Last(o);

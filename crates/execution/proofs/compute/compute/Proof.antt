@@ -1,82 +1,144 @@
--- Shows each opcode up to OR: what its own part of the match answers; the rest is left to the next part.
+-- Shows each opcode: one law for an arm that uses the bus, one for an arm that only computes, and what the arm's own callee answers.
 use borrow.Author.Needs.{needs}
-use Rattle.opcodes.specs.Instruction.{ADC, ADD, AND, OR, SBC, SUB, XOR}
-use Rattle.execution.proofs.compute.Parts.{second}
-use Rattle.execution.proofs.compute.Computing.{adds-hl, adds-sp, breaks, by-alu, compares, copies, decrements, decs, does-nothing, increments, incs, loads-hl, loads-sp, pops, pushes, stops}
+use mathlib.Core.Path.{refl}
+use Rattle.instruction.specs.declared.Opcode.{Opcode}
+use Rattle.instruction.specs.declared.Opcode.the-variants as op
+use Rattle.definition.specs.Step.{Ended}
+use Rattle.definition.specs.Execution.{Does}
+use Rattle.execution.specs.Mirror.{Made, compute, afterIdleMade, jumpMade}
+use Rattle.bus.proofs.Leading.{arm, renamed}
+use Rattle.execution.proofs.compute.Computing.{computes, below-eight}
 use Rattle.execution.proofs.compute.compute.Statement.{statement}
 use Rattle.execution.proofs.compute.compute.Tie as tie
 
-at-nop : tie.Need-returns
-at-nop c = record { there = does-nothing _ _ _ _ _ _ _ (c .before .enum-told .given .1) (c .normal .ensures); whole = c .before .before .before .before .before .pre .whole }
-
-at-stop : tie.Need-returns-2
-at-stop c = record { there = stops _ _ _ _ _ _ _ (c .before .enum-told2 .given .1) (c .stop .ensures); whole = c .before .before .before .before .before .pre .whole }
-
-at-ld : tie.Need-returns-3
-at-ld c = record { there = copies _ _ _ _ _ _ _ (c .before .enum-told3 .given .1) (c .normal2 .ensures); whole = c .before .before .before .before .before .pre .whole }
-
-at-ldsphl : tie.Need-returns-4
-at-ldsphl c = record { there = loads-sp _ _ _ _ _ _ _ _ _ _ (c .before .before .before .before .enum-told4 .given .1) (c .before .before .ld-sp-hl .ensures .there); whole = c .before .before .ld-sp-hl .ensures .whole }
-
-at-ldhlspsigned8 : tie.Need-returns-5
-at-ldhlspsigned8 c = record { there = loads-hl _ _ _ _ _ _ _ _ _ _ (c .before .before .before .before .enum-told5 .given .1) (c .before .before .ld-hl-sp .ensures .there); whole = c .before .before .ld-hl-sp .ensures .whole }
-
-at-ldbb : tie.Need-returns-6
-at-ldbb c = record { there = breaks _ _ _ _ _ _ _ (c .before .enum-told6 .given .1) (c .breakpoint .ensures); whole = c .before .before .before .before .before .pre .whole }
-
-at-push : tie.Need-returns-7
-at-push c = record { there = pushes _ _ _ _ _ _ _ _ _ _ (c .before .before .before .before .enum-told7 .given .1) (c .before .before .push-word .ensures .there); whole = c .before .before .push-word .ensures .whole }
-
-at-pop : tie.Need-returns-8
-at-pop c = record { there = pops _ _ _ _ _ _ _ _ _ _ (c .before .before .before .before .enum-told8 .given .1) (c .before .before .pop-word .ensures .there); whole = c .before .before .pop-word .ensures .whole }
-
-at-inc : tie.Need-returns-9
-at-inc c = record { there = incs _ _ _ _ _ _ _ _ (c .before .before .enum-told9 .given .1) (c .before .inc .ensures) (c .with-result .ensures); whole = c .before .before .before .before .before .before .pre .whole }
-
-at-inc16 : tie.Need-returns-10
-at-inc16 c = record { there = increments _ _ _ _ _ _ _ _ _ _ _ (c .before .before .before .before .before .enum-told10 .given .1) (c .before .before .before .before .wrapping-add .ensures) (c .before .before .slowly .ensures .there); whole = c .before .before .slowly .ensures .whole }
-
-at-dec : tie.Need-returns-11
-at-dec c = record { there = decs _ _ _ _ _ _ _ _ (c .before .before .enum-told11 .given .1) (c .before .dec .ensures) (c .with-result2 .ensures); whole = c .before .before .before .before .before .before .pre .whole }
-
-at-dec16 : tie.Need-returns-12
-at-dec16 c = record { there = decrements _ _ _ _ _ _ _ _ _ _ _ (c .before .before .before .before .before .enum-told12 .given .1) (c .before .before .before .before .wrapping-sub .ensures) (c .before .before .slowly2 .ensures .there); whole = c .before .before .slowly2 .ensures .whole }
-
-at-add : tie.Need-returns-13
-at-add c = record { there = by-alu _ _ _ _ _ _ _ _ ADD (c .before .before .enum-told13 .given .1) (c .before .add .ensures) (c .with-result3 .ensures); whole = c .before .before .before .before .before .before .pre .whole }
-
-at-add16 : tie.Need-returns-14
-at-add16 c = record { there = adds-hl _ _ _ _ _ _ _ _ _ _ (c .before .before .before .before .enum-told14 .given .1) (c .before .before .add-hl .ensures .there); whole = c .before .before .add-hl .ensures .whole }
-
-at-addspsigned8 : tie.Need-returns-15
-at-addspsigned8 c = record { there = adds-sp _ _ _ _ _ _ _ _ _ _ (c .before .before .before .before .enum-told15 .given .1) (c .before .before .add-sp .ensures .there); whole = c .before .before .add-sp .ensures .whole }
-
-at-adc : tie.Need-returns-16
-at-adc c = record { there = by-alu _ _ _ _ _ _ _ _ ADC (c .before .before .enum-told16 .given .1) (c .before .adc .ensures) (c .with-result4 .ensures); whole = c .before .before .before .before .before .before .pre .whole }
-
-at-cp : tie.Need-returns-17
-at-cp c = record { there = compares _ _ _ _ _ _ _ _ (c .before .before .enum-told17 .given .1) (c .before .cp .ensures) (c .with-flags .ensures); whole = c .before .before .before .before .before .before .pre .whole }
-
-at-sub : tie.Need-returns-18
-at-sub c = record { there = by-alu _ _ _ _ _ _ _ _ SUB (c .before .before .enum-told18 .given .1) (c .before .sub .ensures) (c .with-result5 .ensures); whole = c .before .before .before .before .before .before .pre .whole }
-
-at-sbc : tie.Need-returns-19
-at-sbc c = record { there = by-alu _ _ _ _ _ _ _ _ SBC (c .before .before .enum-told19 .given .1) (c .before .sbc .ensures) (c .with-result6 .ensures); whole = c .before .before .before .before .before .before .pre .whole }
-
-at-and : tie.Need-returns-20
-at-and c = record { there = by-alu _ _ _ _ _ _ _ _ AND (c .before .before .enum-told20 .given .1) (c .before .and .ensures) (c .with-result7 .ensures); whole = c .before .before .before .before .before .before .pre .whole }
-
-at-xor : tie.Need-returns-21
-at-xor c = record { there = by-alu _ _ _ _ _ _ _ _ XOR (c .before .before .enum-told21 .given .1) (c .before .xor .ensures) (c .with-result8 .ensures); whole = c .before .before .before .before .before .before .pre .whole }
-
-at-or : tie.Need-returns-22
-at-or c = record { there = by-alu _ _ _ _ _ _ _ _ OR (c .before .before .enum-told22 .given .1) (c .before .or .ensures) (c .with-result9 .ensures); whole = c .before .before .before .before .before .before .pre .whole }
-
-rest-requires : tie.Need-compute-from-jp-requires
-rest-requires c κs = let pre = c .before .before .before .before .pre in record { whole = pre .whole; holds = record { can = pre .holds; later = second (c .before .before .before .before .args .opcode) (c .before .match .keys23) } }
-
-at-rest : tie.Need-returns-23
-at-rest c = c .before .before .compute-from-jp .ensures
+-- what each opcode does, with the operand and the address that the match is given
+abbrev does : tie.Start → Opcode → Does Ended Made
+does start o = compute o (start .args .at .0) (start .args .src)
 
 pub compute-spec : {M : Type 1} → statement M
-compute-spec = tie.close (tie.spec (λ c. search needs) (λ c. search needs) (λ c κs. search needs) (λ c. search needs) (λ c κs. search needs) (λ c. search needs) (λ c κs. search needs) (λ c. search needs) (λ c κs. search needs) (λ c. search needs) (λ c κs. search needs) (λ c. search needs) (λ c κs. search needs) (λ c. search needs) (λ c κs. search needs) (λ c. search needs) (λ c κs. search needs) (λ c. search needs) (λ c κs. search needs) (λ c κs. search needs) (λ c. search needs) (λ c κs. search needs) (λ c κs. search needs) (λ c. search needs) (λ c κs. search needs) (λ c κs. search needs) (λ c. search needs) (λ c κs. search needs) (λ c κs. search needs) (λ c. search needs) (λ c κs. search needs) (λ c κs. search needs) (λ c. search needs) (λ c κs. search needs) (λ c. search needs) (λ c κs. search needs) (λ c. search needs) (λ c κs. search needs) (λ c κs. search needs) (λ c. search needs) (λ c κs. search needs) (λ c. search needs) (λ c κs. search needs) (λ c. search needs) (λ c κs. search needs) (λ c κs. search needs) (λ c. search needs) (λ c κs. search needs) (λ c κs. search needs) (λ c. search needs) (λ c κs. search needs) (λ c κs. search needs) (λ c. search needs) (λ c κs. search needs) (λ c κs. search needs) (λ c. search needs) (λ c κs. search needs) (λ c κs. search needs) rest-requires at-nop at-stop at-ld (λ c. search needs) at-ldsphl (λ c. search needs) at-ldhlspsigned8 at-ldbb (λ c. search needs) at-push (λ c. search needs) at-pop at-inc (λ c. search needs) at-inc16 at-dec (λ c. search needs) at-dec16 at-add (λ c. search needs) at-add16 (λ c. search needs) at-addspsigned8 at-adc at-cp at-sub at-sbc at-and at-xor at-or (λ c. search needs) at-rest)
+unfolding compute jumpMade
+compute-spec =
+    tie.close
+    (tie.spec
+    (λ c. search needs)
+    (λ c. search needs) (λ c κs. search needs)
+    (λ c. search needs) (λ c κs. search needs)
+    (λ c. search needs) (λ c κs. search needs)
+    (λ c. search needs) (λ c κs. search needs)
+    (λ c. search needs) (λ c κs. search needs)
+    (λ c. search needs) (λ c κs. search needs)
+    (λ c. search needs) (λ c κs. search needs)
+    (λ c. search needs) (λ c κs. search needs) (λ c κs. search needs)
+    (λ c. search needs) (λ c κs. search needs) (λ c κs. search needs)
+    (λ c. search needs) (λ c κs. search needs) (λ c κs. search needs)
+    (λ c. search needs) (λ c κs. search needs) (λ c κs. search needs)
+    (λ c. search needs) (λ c κs. search needs) (λ c κs. search needs)
+    (λ c. search needs) (λ c κs. search needs)
+    (λ c. search needs) (λ c κs. search needs)
+    (λ c. search needs) (λ c κs. search needs) (λ c κs. search needs)
+    (λ c. search needs) (λ c κs. search needs) (λ c κs. search needs)
+    (λ c. search needs) (λ c κs. search needs) (λ c. search needs) (λ c κs. search needs)
+    (λ c. search needs) (λ c κs. search needs) (λ c κs. search needs)
+    (λ c. search needs) (λ c κs. search needs) (λ c κs. search needs)
+    (λ c. search needs) (λ c κs. search needs) (λ c κs. search needs)
+    (λ c. search needs) (λ c κs. search needs) (λ c κs. search needs)
+    (λ c. search needs) (λ c κs. search needs)
+    (λ c. search needs) (λ c κs. search needs)
+    (λ c. search needs) (λ c κs. search needs)
+    (λ c. search needs) (λ c κs. search needs)
+    (λ c. search needs) (λ c κs. search needs)
+    (λ c. search needs) (λ c κs. search needs)
+    (λ c. search needs) (λ c. search needs) (λ c κs. search needs)
+    (λ c. search needs) (λ c κs. search needs)
+    (λ c. search needs) (λ c κs. search needs)
+    (λ c. search needs) (λ c κs. search needs) (λ c κs. search needs)
+    (λ c. search needs) (λ c κs. search needs) (λ c κs. search needs)
+    (λ c. search needs) (λ c κs. search needs) (λ c κs. search needs)
+    (λ c. search needs) (λ c κs. search needs) (λ c κs. search needs)
+    (λ c. search needs) (λ c κs. search needs) (λ c κs. search needs)
+    (λ c. search needs) (λ c κs. search needs) (λ c κs. search needs)
+    (λ c. search needs) (λ c κs. search needs) (λ c κs. search needs)
+    (λ c. search needs) (λ c κs. search needs) (λ c κs. search needs)
+    (λ c. search needs) (λ c κs. search needs) (λ c κs. search needs)
+    (λ c. search needs) (λ c κs. search needs) (λ c κs. search needs)
+    (λ c. search needs) (λ c κs. search needs) (λ c κs. search needs)
+    (λ c. search needs) (λ c κs. search needs) (λ c κs. search needs)
+    (λ c. search needs) (λ c κs. search needs) (λ c κs. search needs)
+    (λ c. search needs) (λ c κs. search needs) (λ c κs. search needs)
+    (λ c. search needs) (λ c κs. search needs) (λ c κs. search needs)
+    (λ c. search needs) (λ c κs. search needs) (λ c κs. search needs)
+    (λ c. search needs) (λ c κs. search needs) (λ c κs. search needs)
+    (λ c. search needs) (λ c κs. search needs) (λ c. search needs) (λ c κs. search needs)
+    (λ c. search needs) (λ c κs. search needs) (λ c. search needs) (λ c κs. search needs)
+    (λ c. search needs) (λ c κs. search needs)
+    (λ c. search needs) (λ c κs. search needs)
+    (λ c. search needs) (λ c κs. search needs)
+    (λ c. search needs) (λ c κs. let start = c .before .before .before .before in rw (c .enum-told45 .given .1) at (start .pre .holds))
+    (λ c. let told = c .before in let start = told .before .before .before .before in computes (does start) op.Nop (start .pre .whole) (told .enum-told .given .1) (c .normal .ensures) (λ k. refl))
+    (λ c. let told = c .before in let start = told .before .before .before .before in computes (does start) op.Ld (start .pre .whole) (told .enum-told2 .given .1) (c .normal2 .ensures) (λ k. refl))
+    (λ c. let told = c .before in let start = told .before .before .before .before in computes (does start) op.LdBB (start .pre .whole) (told .enum-told3 .given .1) (c .breakpoint .ensures) (λ k. refl))
+    (λ c. search needs)
+    (λ c. let call = c .before .before in let told = call .before .before in let start = told .before .before .before .before in arm (does start) op.LdSPHL (told .enum-told4 .given .1) (call .ld-sp-hl .ensures) (λ k. refl))
+    (λ c. search needs)
+    (λ c. let call = c .before .before in let told = call .before .before in let start = told .before .before .before .before in arm (does start) op.LdHLSPSigned8 (told .enum-told5 .given .1) (call .ld-hl-sp .ensures) (λ k. refl))
+    (λ c. search needs)
+    (λ c. let call = c .before .before in let told = call .before .before in let start = told .before .before .before .before in arm (does start) op.Push (told .enum-told6 .given .1) (call .push-word .ensures) (λ k. refl))
+    (λ c. search needs)
+    (λ c. let call = c .before .before in let told = call .before .before in let start = told .before .before .before .before in arm (does start) op.Pop (told .enum-told7 .given .1) (call .pop-word .ensures) (λ k. refl))
+    (λ c. search needs)
+    (λ c. let call = c .before .before in let told = call .before .before .before in let start = told .before .before .before .before in arm (does start) op.Inc16 (told .enum-told8 .given .1) (renamed afterIdleMade (call .before .before .wrapping-add .ensures) (call .after-idle .ensures)) (λ k. refl))
+    (λ c. let told = c .before .before in let start = told .before .before .before .before in computes (does start) op.Inc (start .pre .whole) (told .enum-told9 .given .1) (rw (c .before .inc .ensures) at (c .with-result .ensures)) (λ k. refl))
+    (λ c. search needs)
+    (λ c. let call = c .before .before in let told = call .before .before .before in let start = told .before .before .before .before in arm (does start) op.Dec16 (told .enum-told10 .given .1) (renamed afterIdleMade (call .before .before .wrapping-sub .ensures) (call .after-idle2 .ensures)) (λ k. refl))
+    (λ c. let told = c .before .before in let start = told .before .before .before .before in computes (does start) op.Dec (start .pre .whole) (told .enum-told11 .given .1) (rw (c .before .dec .ensures) at (c .with-result2 .ensures)) (λ k. refl))
+    (λ c. let told = c .before .before in let start = told .before .before .before .before in computes (does start) op.Add (start .pre .whole) (told .enum-told12 .given .1) (rw (c .before .add .ensures) at (c .with-result3 .ensures)) (λ k. refl))
+    (λ c. search needs)
+    (λ c. let call = c .before .before in let told = call .before .before in let start = told .before .before .before .before in arm (does start) op.Add16 (told .enum-told13 .given .1) (call .add-hl .ensures) (λ k. refl))
+    (λ c. search needs)
+    (λ c. let call = c .before .before in let told = call .before .before in let start = told .before .before .before .before in arm (does start) op.AddSPSigned8 (told .enum-told14 .given .1) (call .add-sp .ensures) (λ k. refl))
+    (λ c. let told = c .before .before in let start = told .before .before .before .before in computes (does start) op.Adc (start .pre .whole) (told .enum-told15 .given .1) (rw (c .before .adc .ensures) at (c .with-result4 .ensures)) (λ k. refl))
+    (λ c. let told = c .before .before in let start = told .before .before .before .before in computes (does start) op.Sub (start .pre .whole) (told .enum-told16 .given .1) (rw (c .before .sub .ensures) at (c .with-result5 .ensures)) (λ k. refl))
+    (λ c. let told = c .before .before in let start = told .before .before .before .before in computes (does start) op.Cp (start .pre .whole) (told .enum-told17 .given .1) (rw (c .before .cp .ensures) at (c .with-flags .ensures)) (λ k. refl))
+    (λ c. let told = c .before .before in let start = told .before .before .before .before in computes (does start) op.Sbc (start .pre .whole) (told .enum-told18 .given .1) (rw (c .before .sbc .ensures) at (c .with-result6 .ensures)) (λ k. refl))
+    (λ c. let told = c .before .before in let start = told .before .before .before .before in computes (does start) op.And (start .pre .whole) (told .enum-told19 .given .1) (rw (c .before .and .ensures) at (c .with-result7 .ensures)) (λ k. refl))
+    (λ c. let told = c .before .before in let start = told .before .before .before .before in computes (does start) op.Xor (start .pre .whole) (told .enum-told20 .given .1) (rw (c .before .xor .ensures) at (c .with-result8 .ensures)) (λ k. refl))
+    (λ c. let told = c .before .before in let start = told .before .before .before .before in computes (does start) op.Or (start .pre .whole) (told .enum-told21 .given .1) (rw (c .before .or .ensures) at (c .with-result9 .ensures)) (λ k. refl))
+    (λ c. search needs)
+    (λ c. let call = c .before .before in let told = call .before .before .before in let start = told .before .before .before .before in arm (does start) (op.Jp _) (told .opcode .given .1) (call .jp .ensures) (λ k. refl))
+    (λ c. let told = c .before in let start = told .before .before .before .before in computes (does start) op.JpHL (start .pre .whole) (told .enum-told22 .given .1) (c .jump .ensures) (λ k. refl))
+    (λ c. search needs)
+    (λ c. let call = c .before .before in let told = call .before .before .before in let start = told .before .before .before .before in arm (does start) (op.Jr _) (told .opcode2 .given .1) (call .jr .ensures) (λ k. refl))
+    (λ c. search needs)
+    (λ c. let call = c .before .before in let told = call .before .before .before in let start = told .before .before .before .before in arm (does start) (op.Call _) (told .opcode3 .given .1) (call .call .ensures) (λ k. refl))
+    (λ c. search needs)
+    (λ c. let call = c .before .before in let told = call .before .before .before in let start = told .before .before .before .before in arm (does start) (op.Ret _) (told .opcode4 .given .1) (call .ret .ensures) (λ k. refl))
+    (λ c. search needs)
+    (λ c. let call = c .before .before in let told = call .before .before in let start = told .before .before .before .before in arm (does start) op.Reti (told .enum-told23 .given .1) (call .reti .ensures) (λ k. refl))
+    (λ c. search needs)
+    (λ c. let call = c .before .before in let told = call .before .before .before in let start = told .before .before .before .before in arm (does start) (op.Rst _) (told .opcode5 .given .1) (call .call-to .ensures) (λ k. refl))
+    (λ c. let told = c .before in let start = told .before .before .before .before in computes (does start) op.Di (start .pre .whole) (told .enum-told24 .given .1) (c .di .ensures) (λ k. refl))
+    (λ c. let told = c .before in let start = told .before .before .before .before in computes (does start) op.Ei (start .pre .whole) (told .enum-told25 .given .1) (c .ei .ensures) (λ k. refl))
+    (λ c. let told = c .before .before in let start = told .before .before .before .before in computes (does start) op.Ccf (start .pre .whole) (told .enum-told26 .given .1) (rw (c .before .ccf .ensures) at (c .with-a .ensures)) (λ k. refl))
+    (λ c. let told = c .before .before in let start = told .before .before .before .before in computes (does start) op.Scf (start .pre .whole) (told .enum-told27 .given .1) (rw (c .before .scf .ensures) at (c .with-a2 .ensures)) (λ k. refl))
+    (λ c. let told = c .before .before in let start = told .before .before .before .before in computes (does start) op.Daa (start .pre .whole) (told .enum-told28 .given .1) (rw (c .before .daa .ensures) at (c .with-a3 .ensures)) (λ k. refl))
+    (λ c. let told = c .before .before in let start = told .before .before .before .before in computes (does start) op.Cpl (start .pre .whole) (told .enum-told29 .given .1) (rw (c .before .cpl .ensures) at (c .with-a4 .ensures)) (λ k. refl))
+    (λ c. let told = c .before .before in let start = told .before .before .before .before in computes (does start) op.Rlca (start .pre .whole) (told .enum-told30 .given .1) (rw (c .before .rlca .ensures) at (c .with-a5 .ensures)) (λ k. refl))
+    (λ c. let told = c .before .before in let start = told .before .before .before .before in computes (does start) op.Rla (start .pre .whole) (told .enum-told31 .given .1) (rw (c .before .rla .ensures) at (c .with-a6 .ensures)) (λ k. refl))
+    (λ c. let told = c .before .before in let start = told .before .before .before .before in computes (does start) op.Rrca (start .pre .whole) (told .enum-told32 .given .1) (rw (c .before .rrca .ensures) at (c .with-a7 .ensures)) (λ k. refl))
+    (λ c. let told = c .before .before in let start = told .before .before .before .before in computes (does start) op.Rra (start .pre .whole) (told .enum-told33 .given .1) (rw (c .before .rra .ensures) at (c .with-a8 .ensures)) (λ k. refl))
+    (λ c. let told = c .before .before in let start = told .before .before .before .before in computes (does start) op.Rlc (start .pre .whole) (told .enum-told34 .given .1) (rw (c .before .rlc .ensures) at (c .with-result10 .ensures)) (λ k. refl))
+    (λ c. let told = c .before .before in let start = told .before .before .before .before in computes (does start) op.Rrc (start .pre .whole) (told .enum-told35 .given .1) (rw (c .before .rrc .ensures) at (c .with-result11 .ensures)) (λ k. refl))
+    (λ c. let told = c .before .before in let start = told .before .before .before .before in computes (does start) op.Rl (start .pre .whole) (told .enum-told36 .given .1) (rw (c .before .rl .ensures) at (c .with-result12 .ensures)) (λ k. refl))
+    (λ c. let told = c .before .before in let start = told .before .before .before .before in computes (does start) op.Rr (start .pre .whole) (told .enum-told37 .given .1) (rw (c .before .rr .ensures) at (c .with-result13 .ensures)) (λ k. refl))
+    (λ c. let told = c .before .before in let start = told .before .before .before .before in computes (does start) op.Sla (start .pre .whole) (told .enum-told38 .given .1) (rw (c .before .sla .ensures) at (c .with-result14 .ensures)) (λ k. refl))
+    (λ c. let told = c .before .before in let start = told .before .before .before .before in computes (does start) op.Sra (start .pre .whole) (told .enum-told39 .given .1) (rw (c .before .sra .ensures) at (c .with-result15 .ensures)) (λ k. refl))
+    (λ c. let told = c .before .before in let start = told .before .before .before .before in computes (does start) op.Swap (start .pre .whole) (told .enum-told40 .given .1) (rw (c .before .swap .ensures) at (c .with-result16 .ensures)) (λ k. refl))
+    (λ c. let told = c .before .before in let start = told .before .before .before .before in computes (does start) op.Srl (start .pre .whole) (told .enum-told41 .given .1) (rw (c .before .srl .ensures) at (c .with-result17 .ensures)) (λ k. refl))
+    (λ c. let told = c .before .before .before in let start = told .before .before .before .before in computes (does start) (op.Bit _) (start .pre .whole) (told .opcode6 .given .1) (rw (c .before .bit .ensures, below-eight _ (rw (told .opcode6 .given .1) at (start .pre .holds))) at (c .with-flags2 .ensures)) (λ k. refl))
+    (λ c. let told = c .before .before .before in let start = told .before .before .before .before in computes (does start) (op.Res _) (start .pre .whole) (told .opcode7 .given .1) (rw (c .before .res .ensures, below-eight _ (rw (told .opcode7 .given .1) at (start .pre .holds))) at (c .normal3 .ensures)) (λ k. refl))
+    (λ c. let told = c .before .before .before in let start = told .before .before .before .before in computes (does start) (op.Set _) (start .pre .whole) (told .opcode8 .given .1) (rw (c .before .set .ensures, below-eight _ (rw (told .opcode8 .given .1) at (start .pre .holds))) at (c .normal4 .ensures)) (λ k. refl))
+    (λ c. search needs)
+    (λ c. let call = c .before .before in let told = call .before .before in let start = told .before .before .before .before in arm (does start) op.Halt (told .enum-told42 .given .1) (call .halt .ensures) (λ k. refl))
+    (λ c. let told = c .before in let start = told .before .before .before .before in computes (does start) op.Stop (start .pre .whole) (told .enum-told43 .given .1) (c .stop .ensures) (λ k. refl))
+    (λ c. let told = c .before in let start = told .before .before .before .before in computes (does start) op.Illegal (start .pre .whole) (told .enum-told44 .given .1) (c .illegal .ensures) (λ k. refl))
+    (λ c. search needs))

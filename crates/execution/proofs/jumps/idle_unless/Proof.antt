@@ -7,7 +7,9 @@ sure : tie.Need-returns
 sure c = record { there = λ rest. simp (c .if1 .taken); whole = c .before .before .pre }
 
 idling : tie.Need-returns-2
-idling c = rw (c .before .before .before .before .if1 .left) (c .before .before .idle .ensures)
+idling c =
+    let at-if1 = c .before .before .before .before in
+    rw (at-if1 .if1 .left) (c .before .before .idle .ensures)
 
 pub idle-unless-spec : {M : Type 1} → statement M
 idle-unless-spec = tie.close (tie.spec (λ c κs. search needs) sure (λ c. search needs) idling)

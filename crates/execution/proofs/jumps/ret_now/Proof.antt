@@ -5,7 +5,13 @@ use Rattle.execution.proofs.jumps.ret_now.Statement.{statement}
 use Rattle.execution.proofs.jumps.ret_now.Tie as tie
 
 returns : tie.Need-returns
-returns c = record { there = returned _ _ _ _ _ _ _ _ _ (λ x. x) _ _ (c .before .before .before .before .before .before .before .before .before .before .before .stack-pop .ensures .there) (c .before .before .before .before .before .idle .ensures) (c .before .with-registers .ensures) (c .normal .ensures); whole = c .before .before .before .before .before .idle .ensures .whole }
+returns c =
+    let at-idle = c .before .before .before .before .before in
+    let at-stack-pop = at-idle .before .before .before .before .before .before in
+    record {
+      there = returned _ _ _ _ _ _ _ _ _ (λ x. x) _ _ (at-stack-pop .stack-pop .ensures .there) (at-idle .idle .ensures) (c .before .with-registers .ensures) (c .normal .ensures);
+      whole = at-idle .idle .ensures .whole;
+    }
 
 pub ret-now-spec : {M : Type 1} → statement M
 ret-now-spec = tie.close (tie.spec (λ c κs. search needs) (λ c κs. search needs) (λ c κs. search needs) (λ c κs. search needs) (λ c. search needs) returns)

@@ -5,7 +5,12 @@ use Rattle.execution.proofs.words.add_hl.Statement.{statement}
 use Rattle.execution.proofs.words.add_hl.Tie as tie
 
 returns : tie.Need-returns
-returns c = record { there = hl-added _ _ _ _ _ _ _ _ _ (c .before .before .before .before .before .before .idle .ensures) (c .before .before .reg-hl-read .ensures) (c .before .add16 .ensures) (c .with-flags .ensures); whole = c .before .before .before .before .before .before .idle .ensures .whole }
+returns c =
+    let at-idle = c .before .before .before .before .before .before in
+    record {
+      there = hl-added _ _ _ _ _ _ _ _ _ (at-idle .idle .ensures) (c .before .before .reg-hl-read .ensures) (c .before .add16 .ensures) (c .with-flags .ensures);
+      whole = at-idle .idle .ensures .whole;
+    }
 
 pub add-hl-spec : {M : Type 1} → statement M
 add-hl-spec = tie.close (tie.spec (λ c κs. search needs) (λ c κs. search needs) (λ c κs. search needs) (λ c κs. search needs) (λ c. search needs) returns)

@@ -5,7 +5,13 @@ use Rattle.execution.proofs.words.add_sp.Statement.{statement}
 use Rattle.execution.proofs.words.add_sp.Tie as tie
 
 returns : tie.Need-returns
-returns c = record { there = offset-added _ _ _ _ _ _ _ _ _ (c .before .before .before .before .before .before .before .idle .ensures) (c .before .before .before .idle2 .ensures) (c .add-offset .ensures); whole = c .before .before .before .idle2 .ensures .whole }
+returns c =
+    let at-idle2 = c .before .before .before in
+    let at-idle = at-idle2 .before .before .before .before in
+    record {
+      there = offset-added _ _ _ _ _ _ _ _ _ (at-idle .idle .ensures) (at-idle2 .idle2 .ensures) (c .add-offset .ensures);
+      whole = at-idle2 .idle2 .ensures .whole;
+    }
 
 pub add-sp-spec : {M : Type 1} → statement M
 add-sp-spec = tie.close (tie.spec (λ c κs. search needs) (λ c κs. search needs) (λ c κs. search needs) (λ c. search needs) returns)

@@ -5,7 +5,12 @@ use Rattle.execution.proofs.words.pop_word.Statement.{statement}
 use Rattle.execution.proofs.words.pop_word.Tie as tie
 
 returns : tie.Need-returns
-returns c = record { there = word-popped _ _ _ _ _ _ _ _ (c .before .before .before .before .before .stack-pop .ensures .there) (c .normal .ensures); whole = c .before .before .before .before .before .stack-pop .ensures .whole }
+returns c =
+    let at-stack-pop = c .before .before .before .before .before in
+    record {
+      there = word-popped _ _ _ _ _ _ _ _ (at-stack-pop .stack-pop .ensures .there) (c .normal .ensures);
+      whole = at-stack-pop .stack-pop .ensures .whole;
+    }
 
 pub pop-word-spec : {M : Type 1} → statement M
 pop-word-spec = tie.close (tie.spec (λ c κs. search needs) (λ c κs. search needs) (λ c. search needs) returns)

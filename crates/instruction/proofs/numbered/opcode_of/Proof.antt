@@ -1,14 +1,23 @@
--- Shows the opcode at each number, from the two halves.
+-- Shows the opcode at each number: one arm a line of the list, and the last for all others.
 use borrow.Author.Needs.{needs}
-use borrow.Author.Tests.{lt-ltb, le-ltb}
+use mathlib.Core.Path.{sym}
+use lib.ListN.{List·getD-eq-default}
+use Rattle.instruction.specs.Entry.{opcodes}
+use Rattle.instruction.specs.declared.Opcode.the-variants as op
+use Rattle.instruction.proofs.Matched.{past}
 use Rattle.instruction.proofs.numbered.opcode_of.Statement.{statement}
 use Rattle.instruction.proofs.numbered.opcode_of.Tie as tie
 
-returns : tie.Need-returns
-returns c = simp (c .opcode-up-to-ei .ensures, lt-ltb _ _ (c .before .if1 .taken))
-
-returns-2 : tie.Need-returns-2
-returns-2 c = simp (c .opcode-from-ccf .ensures, le-ltb _ _ (c .before .if1 .left))
+others : tie.Need-returns-53
+others c = sym (List·getD-eq-default (opcodes (c .before .args .condition) (c .before .args .byte)) op.Halt {n = c .before .args .n} (past 52 (c .before .args .n) (c .match .rest)))
 
 pub opcode-of-spec : {M : Type 1} → statement M
-opcode-of-spec = tie.close (tie.spec (λ c κs. search needs) (λ c κs. search needs) returns returns-2)
+opcode-of-spec =
+    tie.close
+    (tie.spec
+    (λ c. search needs)
+    (λ c. cc) (λ c. cc) (λ c. cc) (λ c. cc) (λ c. cc) (λ c. cc) (λ c. cc) (λ c. cc) (λ c. cc) (λ c. cc) (λ c. cc) (λ c. cc) (λ c. cc)
+    (λ c. cc) (λ c. cc) (λ c. cc) (λ c. cc) (λ c. cc) (λ c. cc) (λ c. cc) (λ c. cc) (λ c. cc) (λ c. cc) (λ c. cc) (λ c. cc) (λ c. cc)
+    (λ c. cc) (λ c. cc) (λ c. cc) (λ c. cc) (λ c. cc) (λ c. cc) (λ c. cc) (λ c. cc) (λ c. cc) (λ c. cc) (λ c. cc) (λ c. cc) (λ c. cc)
+    (λ c. cc) (λ c. cc) (λ c. cc) (λ c. cc) (λ c. cc) (λ c. cc) (λ c. cc) (λ c. cc) (λ c. cc) (λ c. cc) (λ c. cc) (λ c. cc) (λ c. cc)
+    others)

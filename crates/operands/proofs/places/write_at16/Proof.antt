@@ -9,7 +9,10 @@ use Rattle.operands.proofs.places.write_at16.Tie as tie
 
 returns : tie.Need-returns
 unfolding writeOperand
-returns c = record { there = after _ _ _ _ _ _ _ _ _ imm16 (λ a. store Operand a _) _ _ (c .before .before .before .before .before .before .before .before .fetch16 .ensures .there) (c .before .before .store .ensures .there); whole = c .before .before .store .ensures .whole }
+returns c =
+    let stored = c .before .before in
+    let fetched = stored .before .before .before .before .before .before in
+    record { there = after _ _ _ _ _ _ _ _ _ imm16 (λ a. store Operand a _) _ _ (fetched .fetch16 .ensures .there) (stored .store .ensures .there); whole = stored .store .ensures .whole }
 
 pub write-at16-spec : {M : Type 1} → statement M
 write-at16-spec = tie.close (tie.spec (λ c κs. search needs) (λ c. search needs) (λ c κs. search needs) (λ c. search needs) returns)

@@ -8,7 +8,14 @@ use Rattle.operands.proofs.places.write_hl_dec.Tie as tie
 
 returns : tie.Need-returns
 unfolding writeOperand
-returns c = record { there = byte-to-hl _ _ _ _ _ back _ _ _ _ _ (c .before .before .before .before .before .before .before .reg-hl-read .ensures) (c .before .before .before .before .before .write .ensures) (c .before .before .wrapping-sub .ensures) (c .before .reg-hl-write .ensures) (c .with-registers .ensures); whole = c .before .before .before .before .before .write .ensures .whole }
+returns c =
+    let moved = c .before .before in
+    let written = moved .before .before .before in
+    let read = written .before .before in
+    record {
+      there = byte-to-hl _ _ _ _ _ back _ _ _ _ _ (read .reg-hl-read .ensures) (written .write .ensures) (moved .wrapping-sub .ensures) (c .before .reg-hl-write .ensures) (c .with-registers .ensures);
+      whole = written .write .ensures .whole;
+    }
 
 pub write-hl-dec-spec : {M : Type 1} → statement M
 write-hl-dec-spec = tie.close (tie.spec (λ c κs. search needs) (λ c. search needs) (λ c κs. search needs) (λ c κs. search needs) (λ c κs. search needs) (λ c κs. search needs) (λ c. search needs) returns)

@@ -9,7 +9,10 @@ use Rattle.operands.proofs.sources.read_at16.Tie as tie
 
 returns : tie.Need-returns
 unfolding readOperand
-returns c = record { there = after _ _ _ _ _ _ _ _ _ imm16 (load Operand) _ _ (c .before .before .before .before .before .before .before .before .fetch16 .ensures .there) (c .before .before .load .ensures .there); whole = c .before .before .load .ensures .whole }
+returns c =
+    let loaded = c .before .before in
+    let fetched = loaded .before .before .before .before .before .before in
+    record { there = after _ _ _ _ _ _ _ _ _ imm16 (load Operand) _ _ (fetched .fetch16 .ensures .there) (loaded .load .ensures .there); whole = loaded .load .ensures .whole }
 
 pub read-at16-spec : {M : Type 1} → statement M
 read-at16-spec = tie.close (tie.spec (λ c κs. search needs) (λ c κs. search needs) (λ c. search needs) returns)

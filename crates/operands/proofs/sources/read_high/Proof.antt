@@ -9,7 +9,14 @@ use Rattle.operands.proofs.sources.read_high.Tie as tie
 
 returns : tie.Need-returns
 unfolding imm8 readOperand
-returns c = record { there = after _ _ _ _ _ _ _ _ _ imm8 (λ n. load Operand (high n)) _ _ (c .before .before .before .before .before .before .before .before .before .fetch-next-pc .ensures .there) (along _ _ _ _ _ _ (load Operand) _ _ _ (c .before .before .before .before .high .ensures) (c .before .before .load .ensures .there)); whole = c .before .before .load .ensures .whole }
+returns c =
+    let loaded = c .before .before in
+    let named = loaded .before .before in
+    let fetched = named .before .before .before .before .before in
+    record {
+      there = after _ _ _ _ _ _ _ _ _ imm8 (λ n. load Operand (high n)) _ _ (fetched .fetch-next-pc .ensures .there) (along _ _ _ _ _ _ (load Operand) _ _ _ (named .high .ensures) (loaded .load .ensures .there));
+      whole = loaded .load .ensures .whole;
+    }
 
 pub read-high-spec : {M : Type 1} → statement M
 read-high-spec = tie.close (tie.spec (λ c κs. search needs) (λ c κs. search needs) (λ c κs. search needs) (λ c. search needs) returns)

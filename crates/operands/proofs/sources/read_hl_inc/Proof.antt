@@ -8,7 +8,15 @@ use Rattle.operands.proofs.sources.read_hl_inc.Tie as tie
 
 returns : tie.Need-returns
 unfolding readOperand
-returns c = record { there = byte-at-hl _ _ _ _ _ next _ _ _ _ _ (c .before .before .before .before .before .before .before .before .before .reg-hl-read .ensures) (c .before .before .before .before .before .before .before .read .ensures) (c .before .before .before .wrapping-add .ensures) (c .before .before .reg-hl-write .ensures) (c .before .with-registers .ensures); whole = c .before .before .before .before .before .before .before .read .ensures .whole }
+returns c =
+    let put = c .before in
+    let moved = put .before .before in
+    let got = moved .before .before .before .before in
+    let named = got .before .before in
+    record {
+      there = byte-at-hl _ _ _ _ _ next _ _ _ _ _ (named .reg-hl-read .ensures) (got .read .ensures) (moved .wrapping-add .ensures) (put .before .reg-hl-write .ensures) (put .with-registers .ensures);
+      whole = got .read .ensures .whole;
+    }
 
 pub read-hl-inc-spec : {M : Type 1} → statement M
 read-hl-inc-spec = tie.close (tie.spec (λ c κs. search needs) (λ c κs. search needs) (λ c κs. search needs) (λ c κs. search needs) (λ c κs. search needs) (λ c. search needs) (λ c. search needs) returns)

@@ -6,7 +6,9 @@ use Rattle.operands.proofs.sources.read_imm8.Tie as tie
 
 returns : tie.Need-returns
 unfolding imm8
-returns c = c .before .before .before .before .before .fetch-next-pc .ensures
+returns c =
+    let fetched = c .before .before .before .before .before in
+    fetched .fetch-next-pc .ensures
 
 pub read-imm8-spec : {M : Type 1} → statement M
 read-imm8-spec = tie.close (tie.spec (λ c κs. search needs) (λ c. search needs) (λ c. search needs) returns)

@@ -10,7 +10,9 @@ use Rattle.operands.proofs.sources.read_signed.Tie as tie
 
 returns : tie.Need-returns
 unfolding imm8 readOperand
-returns c = record { there = after _ _ _ _ _ _ _ _ _ imm8 (λ e. give (signed e)) _ _ (c .before .before .before .before .before .fetch-next-pc .ensures .there) (giving _ _ _ _ _ (c .sign-extended .ensures)); whole = c .before .before .before .before .before .fetch-next-pc .ensures .whole }
+returns c =
+    let fetched = c .before .before .before .before .before in
+    record { there = after _ _ _ _ _ _ _ _ _ imm8 (λ e. give (signed e)) _ _ (fetched .fetch-next-pc .ensures .there) (giving _ _ _ _ _ (c .sign-extended .ensures)); whole = fetched .fetch-next-pc .ensures .whole }
 
 pub read-signed-spec : {M : Type 1} → statement M
 read-signed-spec = tie.close (tie.spec (λ c κs. search needs) (λ c κs. search needs) (λ c. search needs) returns)

@@ -1,0 +1,2 @@
+-- The laws that both matches go by.
+pub mod Kept

@@ -1,3 +1,0 @@
--- TODO: laws.
-pub mod Destining
-pub mod Widths
