@@ -7,7 +7,6 @@ ghost use Rattle.bus.specs.Requests.{Sees, Clears, SeesAndTakes};
 use crate::AccessKind;
 use crate::Port;
 use crate::write;
-use bits::single_bits::res;
 use outcome::interrupt::InterruptType;
 use outcome::interrupt::NextInterrupt;
 use sm83::Addr;
@@ -58,8 +57,8 @@ fn acknowledge(mem: &mut [u8], interrupt: InterruptType)
     ensures { λ r. ⌜ Clears interrupt (now (mem .entry)) (now (mem .exit)) ⌝ }
 {
     let requested = mem[0xff0f];
-    let left = res(interrupt.number(), requested);
-    mem[0xff0f] = left;
+    let n = interrupt.number();
+    mem[0xff0f] = requested & !(1 << n);
 }
 
 // Clears the bit of the interrupt that it answers.

@@ -1,7 +1,8 @@
 -- The grammar of the command line: the words of each command, what follows an option, and what a word names.
+use mathlib.Core.Path.{_≡_}
 use mathlib.Core.Bool.{Bool, true, false, _||_}
 use mathlib.Core.List.{List, [], _∷_}
-use Prim.Native.Nat.{ℕ}
+use Prim.Native.Nat.{ℕ, _<_}
 use lib.Dec.{eqb}
 use lib.ListN.{getD}
 use Rattle.text.specs.Page.{ascii}
@@ -54,6 +55,11 @@ place part.Help = 12
 
 abbrev pub parts : ℕ
 parts = 13
+
+-- the place of a part, which is one of the row
+pub record PlaceOf (p : Part) (r : ℕ) : Type 0 where
+  pub is : r ≡ place p
+  pub inside : r < parts
 
 abbrev pub isIn : ℕ → List Part → Bool
 isIn n [] = false

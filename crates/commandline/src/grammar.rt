@@ -1,8 +1,7 @@
 // The grammar: the commands, what a word may stand for, which words a command takes, and what follows an option. A new command or option
 // is one case in each of these, and a sentence in `saying`.
 ghost use mathlib.Core.Path.{_≡_};
-ghost use Prim.Native.Nat.{_<_};
-ghost use Rattle.commandline.specs.Grammar.{place, parts, plainOf, allows, kindOf, isAlone, commandNamed, optionNamed, powerNamed};
+ghost use Rattle.commandline.specs.Grammar.{PlaceOf, plainOf, allows, kindOf, isAlone, commandNamed, optionNamed, powerNamed};
 use text::lines::number_of;
 
 pub enum Command {
@@ -34,7 +33,7 @@ pub enum Part {
 pub const PARTS: usize = 13;
 
 pub fn place(part: Part) -> usize
-    ensures { λ r. ⌜ (r ≡ place part) × (r < parts) ⌝ }
+    ensures { λ r. ⌜ PlaceOf part r ⌝ }
 {
     match part {
         Part::Image => 0,

@@ -42,10 +42,10 @@ module _ (c : ScreenCall) where
   marksLeft = now (c .left .1 .1 .1 .0)
 
   pub verdict-is : c .verdict ≡ screen screened firstOf lastOf lentMarks .verdict
-  verdict-is = c .conforms .0
+  verdict-is = c .conforms .verdict
 
   pub marks-are : marksLeft ≡ screen screened firstOf lastOf lentMarks .marks
-  marks-are = c .conforms .1
+  marks-are = c .conforms .marks
 
 -- `step(cpu, mem)`
 pub record StepCall : Type 0 where

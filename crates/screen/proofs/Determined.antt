@@ -10,4 +10,4 @@ takes-any-input κs input = tt
 
 -- of one input: two answers, and the arguments as the two calls leave them, of which the last is the marks
 pub determined : (κs : _) (input : _) (v w : Verdict) (left other : _) → Post κs input v left → Post κs input w other → (v ≡ w) × (now (left .1 .1 .1 .0) ≡ now (other .1 .1 .1 .0))
-determined κs input v w left other p q = (p .0 ∙ sym (q .0), p .1 ∙ sym (q .1))
+determined κs input v w left other p q = (p .verdict ∙ sym (q .verdict), p .marks ∙ sym (q .marks))

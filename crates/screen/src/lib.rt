@@ -2,8 +2,8 @@
 ghost use mathlib.Core.Path.{_≡_};
 ghost use mathlib.Core.List.{[], _∷_, map};
 ghost use lib.ListN.{length};
-ghost use Rattle.routine.specs.Screen.{isMarked, scanFor, firstOf, tests, verdict, marksAfter, screen};
-ghost use Rattle.screen.specs.Parts.{Inside};
+ghost use Rattle.routine.specs.Screen.{isMarked, scanFor, firstOf, tests, verdict, screen};
+ghost use Rattle.screen.specs.Parts.{Inside, Finds, Screens};
 use crate::targets::scan;
 use crate::walk::walk;
 use crate::window::clear;
@@ -49,8 +49,7 @@ fn after_walk(walked: Verdict, mem: &[u8], first: Addr, marks: &[u8]) -> Verdict
 // 7 and 8, then the tests after them; "marks all 0", unless it passes.
 fn judge(mem: &[u8], first: Addr, marks: &mut [u8]) -> Verdict
     requires { ⌜ Inside (now mem) (first .0) (length (now marks)) ⌝ }
-    ensures { λ r. ⌜ r ≡ verdict (now (mem .entry)) (first .0) (length (now (marks .entry))) ⌝ }
-    ensures { λ r. ⌜ now (marks .exit) ≡ marksAfter r (now (mem .entry)) (first .0) (length (now (marks .entry))) ⌝ }
+    ensures { λ r. ⌜ Finds verdict (now (mem .entry)) (first .0) (length (now (marks .entry))) r (now (marks .exit)) ⌝ }
 {
     let walked = walk(mem, first, marks);
     let found = after_walk(walked, mem, first, marks);
@@ -65,8 +64,7 @@ fn judge(mem: &[u8], first: Addr, marks: &mut [u8]) -> Verdict
 
 // "The screen tests 1, 4, 5, 6 in this order; it never changes memory."
 pub fn screen(mem: &[u8], first: Addr, last: Addr, marks: &mut [u8]) -> Verdict
-    ensures { λ r. ⌜ r ≡ screen (now (mem .entry)) (first .0) (last .0) (now (marks .entry)) .verdict ⌝ }
-    ensures { λ r. ⌜ now (marks .exit) ≡ screen (now (mem .entry)) (first .0) (last .0) (now (marks .entry)) .marks ⌝ }
+    ensures { λ r. ⌜ Screens (screen (now (mem .entry)) (first .0) (last .0) (now (marks .entry))) r (now (marks .exit)) ⌝ }
 {
     if mem.len() != 65536 {
         return Verdict::Refused(ScreenRefusal::MemoryLength);

@@ -2,7 +2,7 @@
 ghost use mathlib.Core.Path.{_≡_};
 ghost use Prim.Native.Nat.{_+_, _%_};
 ghost use lib.ListN.{length};
-ghost use Rattle.sm83.specs.Basics.{word, signed, offset, next};
+ghost use Rattle.sm83.specs.Basics.{word, offset, next};
 ghost use Rattle.definition.specs.Bus.{byteAt};
 ghost use Rattle.routine.specs.declared.Test.the-variants.{Ends, Lands};
 ghost use Rattle.routine.specs.Screen.{isMarked, passes, refusalOf, scanFor};
@@ -10,23 +10,13 @@ ghost use Rattle.screen.specs.Parts.{Inside};
 use crate::class::ends_routine;
 use crate::window::address;
 use crate::window::shape_at;
+use arithmetic::words::sign_extended;
 use routine::Class;
 use routine::ScreenRefusal;
 use routine::Test;
 use routine::Verdict;
 use sm83::Addr;
 use sm83::registers::pair;
-
-// A signed byte as a word.
-fn extended(e: u8) -> u16
-    ensures { λ r. ⌜ r ≡ signed e ⌝ }
-{
-    if e < 128 {
-        e as u16
-    } else {
-        (e as u16) + 0xff00
-    }
-}
 
 // The byte that stands `by` bytes further on, modulo 65,536.
 fn byte_after(mem: &[u8], at: Addr, by: u16) -> u8
@@ -54,7 +44,7 @@ fn relative(mem: &[u8], at: Addr) -> Addr
     ensures { λ r. ⌜ r .0 ≡ offset (at .0 + 2) (byteAt (now (mem .entry)) (next (at .0))) ⌝ }
 {
     let after = at.wrapping_add(2);
-    after.wrapping_add(extended(byte_after(mem, at, 1)))
+    after.wrapping_add(sign_extended(byte_after(mem, at, 1)))
 }
 
 // No address outside the window is marked.

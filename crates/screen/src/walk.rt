@@ -1,8 +1,7 @@
 // The walk from the first address by instruction length, with the tests 7 and 8 at each start.
 ghost use mathlib.Core.Path.{_≡_};
 ghost use lib.ListN.{length};
-ghost use Rattle.routine.specs.Screen.{walk, marksAfter};
-ghost use Rattle.screen.specs.Parts.{Inside};
+ghost use Rattle.screen.specs.Parts.{Inside, walked, Finds};
 use crate::class::is_forbidden;
 use crate::window::address;
 use crate::window::clear;
@@ -15,8 +14,7 @@ use sm83::Addr;
 // "At each start 7 is tested before 8, and the first finding by address wins." A finding leaves the marks all 0.
 pub fn walk(mem: &[u8], first: Addr, marks: &mut [u8]) -> Verdict
     requires { ⌜ Inside (now mem) (first .0) (length (now marks)) ⌝ }
-    ensures { λ r. ⌜ r ≡ walk (now (mem .entry)) (first .0) 0 (first .0) (length (now (marks .entry))) ⌝ }
-    ensures { λ r. ⌜ now (marks .exit) ≡ marksAfter r (now (mem .entry)) (first .0) (length (now (marks .entry))) ⌝ }
+    ensures { λ r. ⌜ Finds walked (now (mem .entry)) (first .0) (length (now (marks .entry))) r (now (marks .exit)) ⌝ }
 {
     clear(marks);
     let n = marks.len();

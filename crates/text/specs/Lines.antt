@@ -1,10 +1,17 @@
 -- A text of lines: the line with a number, and the number of the line that holds a word.
+use mathlib.Core.Path.{_≡_}
 use mathlib.Core.Bool.{Bool, true, false, _&&_}
 use mathlib.Core.List.{List, [], _∷_}
-use Prim.Native.Nat.{ℕ, _+_, _-_}
+use Prim.Native.Nat.{ℕ, _+_, _-_, _≤_}
 use lib.Dec.{eqb, ltb}
+use lib.ListN.{length}
 use Rattle.text.specs.Page.{choose}
 use Rattle.text.specs.Same.{sameBytes}
+
+-- a place in a text, and the part that a cut leaves there: what is in front of it, or from it on
+pub record Place (cut : ℕ → List ℕ → List ℕ) (text part : List ℕ) (r : ℕ) : Type 0 where
+  pub inside : r ≤ length text
+  pub leaves : cut r text ≡ part
 
 -- what stands in front of the first byte below `end`: 11 ends a line, 33 a word
 unfoldable pub until : ℕ → List ℕ → List ℕ

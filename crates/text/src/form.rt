@@ -1,9 +1,9 @@
 // A form is a text in which some bytes are marks: # $ % & stand for the next value, as four hexadecimal digits, two, a decimal number or
 // flags, and @ for the word.
 ghost use mathlib.Core.Path.{_≡_};
-ghost use Prim.Native.Nat.{_≤_};
 ghost use lib.ListN.{getD};
 ghost use Rattle.text.specs.Page.{page, Wrote};
+ghost use Rattle.text.specs.Within.{Within};
 ghost use Rattle.text.specs.Form.{flag, flags, meant, takes, filled};
 use crate::digits::put_decimal;
 use crate::hex::put_hex2;
@@ -60,7 +60,7 @@ fn put_meant(out: &mut [u8], at: usize, b: u8, value: u64, word: &[u8]) -> usize
 }
 
 fn takes(b: u8) -> usize
-    ensures { λ r. ⌜ (r ≡ takes b) × (r ≤ 1) ⌝ }
+    ensures { λ r. ⌜ Within 1 (takes b) r ⌝ }
 {
     let above = 34 < b;
     let below = b < 39;

@@ -2,14 +2,14 @@
 // below 33.
 ghost use mathlib.Core.Path.{_≡_};
 ghost use mathlib.Core.Bool.{_&&_};
-ghost use Prim.Native.Nat.{_-_, _≤_};
-ghost use lib.ListN.{length, take, drop};
-ghost use Rattle.text.specs.Lines.{until, lineEnd, fromLine, lineOf, names, numberOf};
+ghost use lib.ListN.{take, drop};
+ghost use Rattle.text.specs.Within.{Within};
+ghost use Rattle.text.specs.Lines.{Place, until, lineEnd, fromLine, lineOf, names, numberOf};
 use crate::same::same;
 
 // How long the text is in front of its first byte below `end`.
 fn end_of(text: &[u8], end: u8) -> usize
-    ensures { λ r. ⌜ (r ≤ length (now (text .entry))) × (take r (now (text .entry)) ≡ until end (now (text .entry))) ⌝ }
+    ensures { λ r. ⌜ Place take (now (text .entry)) (until end (now (text .entry))) r ⌝ }
 {
     let mut i = 0;
     while i < text.len() {
@@ -22,7 +22,7 @@ fn end_of(text: &[u8], end: u8) -> usize
 }
 
 fn line_end(b: u8) -> usize
-    ensures { λ r. ⌜ (r ≡ lineEnd b) × (r ≤ 1) ⌝ }
+    ensures { λ r. ⌜ Within 1 (lineEnd b) r ⌝ }
 {
     let ends = b < 11;
     if ends { 1 } else { 0 }
@@ -30,7 +30,7 @@ fn line_end(b: u8) -> usize
 
 // Where line n starts; the text's end if there is none.
 fn start_of(text: &[u8], n: usize) -> usize
-    ensures { λ r. ⌜ (r ≤ length (now (text .entry))) × (drop r (now (text .entry)) ≡ fromLine n (now (text .entry))) ⌝ }
+    ensures { λ r. ⌜ Place drop (now (text .entry)) (fromLine n (now (text .entry))) r ⌝ }
 {
     let mut left = n;
     let mut i = 0;

@@ -2,6 +2,7 @@
 ghost use mathlib.Core.Path.{_≡_};
 ghost use mathlib.Core.Bool.{true, false};
 ghost use Prim.Native.Nat.{_<_, _≤_};
+ghost use Rattle.text.specs.Within.{Within};
 ghost use Rattle.text.specs.Number.{digitOf, timesBase, grown, decimal, hexadecimal, readDecimal, readHex, begun, afterZero, readByte, reads, ended, numberIn};
 
 // Why a text is no number.
@@ -77,7 +78,7 @@ fn digit_of(b: u8) -> Digit
 
 fn times_base(value: u64, hex: bool) -> u64
     requires { ⌜ value ≤ 4294967295 ⌝ }
-    ensures { λ r. ⌜ (r ≡ timesBase value hex) × (r ≤ 68719476720) ⌝ }
+    ensures { λ r. ⌜ Within 68719476720 (timesBase value hex) r ⌝ }
 {
     if hex { value * 16 } else { value * 10 }
 }

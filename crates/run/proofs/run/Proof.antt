@@ -9,16 +9,33 @@ use Rattle.run.proofs.run.Statement.{statement}
 use Rattle.run.proofs.run.Tie as tie
 
 repeat-requires : tie.Need-repeat-requires
-repeat-requires c κs = record { whole = eqb-true _ _ (c .before .before .before .before .if1 .taken); holds = eqb-true _ _ (c .before .if2 .taken) }
+repeat-requires c κs =
+    let at-low-bits = c .before in
+    let at-length = at-low-bits .before .before .before in
+    record { whole = eqb-true _ _ (at-length .if1 .taken); holds = eqb-true _ _ (at-low-bits .if2 .taken) }
 
 returns : tie.Need-returns
-returns c = c .before .before .repeat .ensures ∙ run-accepted behind stands-behind _ _ _ (c .before .before .before .before .before .before .before .if1 .taken) (c .before .before .before .before .if2 .taken)
+returns c =
+    let at-repeat = c .before .before in
+    let at-low-bits = at-repeat .before .before in
+    let at-length = at-low-bits .before .before .before in
+    let accepted = run-accepted behind stands-behind _ _ _ (at-length .if1 .taken) (at-low-bits .if2 .taken) in
+    at-repeat .repeat .ensures ∙ accepted
 
 returns-2 : tie.Need-returns-2
-returns-2 c = c .before .before .refused .ensures ∙ refused-low-bits behind stands-behind _ _ _ (c .before .before .before .before .before .before .before .if1 .taken) (c .before .before .before .before .if2 .left)
+returns-2 c =
+    let at-refused = c .before .before in
+    let at-low-bits = at-refused .before .before in
+    let at-length = at-low-bits .before .before .before in
+    let refused = refused-low-bits behind stands-behind _ _ _ (at-length .if1 .taken) (at-low-bits .if2 .left) in
+    at-refused .refused .ensures ∙ refused
 
 returns-3 : tie.Need-returns-3
-returns-3 c = c .before .before .refused2 .ensures ∙ refused-length behind stands-behind _ _ _ (c .before .before .before .before .if1 .left)
+returns-3 c =
+    let at-refused = c .before .before in
+    let at-length = at-refused .before .before in
+    let wrong-length = refused-length behind stands-behind _ _ _ (at-length .if1 .left) in
+    at-refused .refused2 .ensures ∙ wrong-length
 
 pub run-spec : {M : Type 1} → statement M
 run-spec =

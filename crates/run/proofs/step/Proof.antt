@@ -12,13 +12,15 @@ use Rattle.run.proofs.step.Tie as tie
 
 returns : tie.Need-returns
 returns c =
-    let e = c .before .before .before .before .before .run .ensures in
-    let it = once behind (c .before .before .before .before .before .before .before .before .args .cpu) (c .before .before .before .before .before .before .before .before .args .mem .now) in
+    let at-run = c .before .before .before .before .before in
+    let args = at-run .before .before .before .args in
+    let ran = at-run .run .ensures in
+    let stepped = once behind (args .cpu) (args .mem .now) in
     record {
-      outcome = c .outcome-of .ensures ∙ ap (λ (r : RunAnswer (List ℕ)). outcomeOf (r .last)) e ∙ ap outcomeOf (it .last);
-      cpu = ap (λ (r : RunAnswer (List ℕ)). r .cpu) e ∙ it .cpu;
-      memory = ap (λ (r : RunAnswer (List ℕ)). r .memory) e ∙ it .memory;
-      cycles = ap (λ (r : RunAnswer (List ℕ)). r .cycles) e ∙ it .cycles;
+      outcome = c .outcome-of .ensures ∙ ap (λ (r : RunAnswer (List ℕ)). outcomeOf (r .last)) ran ∙ ap outcomeOf (stepped .last);
+      cpu = ap (λ (r : RunAnswer (List ℕ)). r .cpu) ran ∙ stepped .cpu;
+      memory = ap (λ (r : RunAnswer (List ℕ)). r .memory) ran ∙ stepped .memory;
+      cycles = ap (λ (r : RunAnswer (List ℕ)). r .cycles) ran ∙ stepped .cycles;
     }
 
 pub step-spec : {M : Type 1} → statement M

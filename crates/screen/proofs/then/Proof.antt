@@ -8,8 +8,9 @@ use Rattle.screen.proofs.then.Tie as tie
 
 returns : tie.Need-returns
 returns c =
-    let args = c .before .before .before .before .before .args in
-    second-decides (args .found) (scanFor (args .mem .now) (isMarked (args .marks .now) (args .first .0)) (args .first .0) (length (args .marks .now)) (args .test)) (passes (args .found) (c .before .before .match .keys1)) (c .scan .ensures)
+    let in-arm = c .before .before in
+    let args = in-arm .before .before .before .args in
+    second-decides (args .found) (scanFor (args .mem .now) (isMarked (args .marks .now) (args .first .0)) (args .first .0) (length (args .marks .now)) (args .test)) (passes (args .found) (in-arm .match .keys1)) (c .scan .ensures)
 
 returns-2 : tie.Need-returns-2
 returns-2 c =

@@ -6,4 +6,4 @@ use Rattle.screen.proofs.walk.walk.Reads.{Post}
 
 -- of one input: two answers, and the arguments as the two calls leave them, of which the last is the marks
 pub determined : (κs : _) (input : _) (v w : Verdict) (left other : _) → Post κs input v left → Post κs input w other → (v ≡ w) × (now (left .1 .1 .0) ≡ now (other .1 .1 .0))
-determined κs input v w left other p q = (p .0 ∙ sym (q .0), cc)
+determined κs input v w left other p q = (p .finding ∙ sym (q .finding), cc)

@@ -7,12 +7,12 @@ use native.Mathlib.Omega.{arith}
 use lib.ListN.{length, take, drop, set, replicate, length-set, replicate-append-replicate}
 use lib.Seq.{set-at, take-add, drop-drop, take-all, length-take-le}
 use Rattle.routine.specs.declared.ScreenRefusal.the-variants.{ForbiddenOpcode, PastTheEnd}
-use Rattle.routine.specs.declared.Verdict.{Verdict}
 use Rattle.routine.specs.declared.Verdict.the-variants.{Passes}
 use Rattle.opcodes.specs.Instruction.{operands}
 use Rattle.routine.specs.Flow.{classAt, instructionAt, isForbidden}
-use Rattle.routine.specs.Screen.{refusedAt, walk, marksFrom, marksOf, marksAfter}
+use Rattle.routine.specs.Screen.{refusedAt, walk, marksFrom, marksOf}
 use Rattle.routine.proofs.Marks.{marks-length}
+use Rattle.screen.specs.Parts.{walked, Finds}
 use Rattle.screen.proofs.walk.Steps.{lengthAt, refused-7, refused-8, walk-on, marks-on, marks-of-one}
 
 module _ (m : List ℕ) (first n : ℕ) where
@@ -84,18 +84,13 @@ module _ (m : List ℕ) (first n : ℕ) where
               ∙ append-assoc (take at whole) (1 ∷ replicate ops 0) (replicate left 0)
               ∙ ap (λ (l : List ℕ). take at whole ++ 1 ∷ l) (replicate-append-replicate ops left 0)
 
-  -- what the walk answers, and the marks that it leaves
-  pub record Walked (r : Verdict) (marks : List ℕ) : Type 0 where
-    pub finding : r ≡ walk m first 0 first n
-    pub left : marks ≡ marksAfter r m first n
-
   -- neither applies at any start
-  pub ended : {at : ℕ} {marks : List ℕ} → Reached at marks → n ≤ at → Walked Passes marks
+  pub ended : {at : ℕ} {marks : List ℕ} → Reached at marks → n ≤ at → Finds walked m first n Passes marks
   unfolding walk
   ended {at} {marks} r done =
       record {
         finding = sym (r .walked ∙ ap (walk m first 0 (first + at)) none);
-        left = r .marked ∙ ap₂ (λ (l : List ℕ) (j : ℕ). l ++ replicate j 0) (take-all at (marksOf m first n) (omega (arith, marks-length m first n))) none ∙ append-nil (marksOf m first n);
+        marks = r .marked ∙ ap₂ (λ (l : List ℕ) (j : ℕ). l ++ replicate j 0) (take-all at (marksOf m first n) (omega (arith, marks-length m first n))) none ∙ append-nil (marksOf m first n);
       }
     where
       none : n - at ≡ 0

@@ -12,8 +12,9 @@ use Rattle.sm83.specs.State.{addr}
 use Rattle.routine.specs.Flow.{classAt, instructionAt, isForbidden}
 use Rattle.screen.specs.declared.class.Shape.{Shape}
 use Rattle.screen.specs.Shapes.{shapeOf}
+use Rattle.screen.specs.Parts.{walked, Finds}
 use Rattle.screen.proofs.walk.Steps.{lengthAt}
-use Rattle.screen.proofs.walk.Reached.{Reached, Walked, found-7, found-8, onward}
+use Rattle.screen.proofs.walk.Reached.{Reached, found-7, found-8, onward}
 
 -- what a turn knows: how far the walk has come, where it stands, the shape that it read there, and whether that is forbidden
 pub record Turn (m : List ℕ) (first n at : ℕ) (marks : List ℕ) (here : Addr) (s : Shape) (forbidden : Bool) : Type 0 where
@@ -40,12 +41,12 @@ module _ {m : List ℕ} {first n at : ℕ} {marks : List ℕ} {here : Addr} {s :
   cleared : {left : List ℕ} → left ≡ replicate (length marks) 0 → left ≡ replicate n 0
   cleared clear = clear ∙ ap (λ (j : ℕ). replicate j 0) (turn .reached .kept)
 
-  pub turn-7 : forbidden ≡ true → {left : List ℕ} → left ≡ replicate (length marks) 0 → Walked m first n (RefusedAt ForbiddenOpcode here) left
-  turn-7 bad clear = record { finding = ap (RefusedAt ForbiddenOpcode) (turn .there) ∙ sym (found-7 m first n (turn .reached) (turn .more) (is-forbidden ∙ bad)); left = cleared clear }
+  pub turn-7 : forbidden ≡ true → {left : List ℕ} → left ≡ replicate (length marks) 0 → Finds walked m first n (RefusedAt ForbiddenOpcode here) left
+  turn-7 bad clear = record { finding = ap (RefusedAt ForbiddenOpcode) (turn .there) ∙ sym (found-7 m first n (turn .reached) (turn .more) (is-forbidden ∙ bad)); marks = cleared clear }
 
   module _ (ok : forbidden ≡ false) where
-    pub turn-8 : n - at < s .0 → {left : List ℕ} → left ≡ replicate (length marks) 0 → Walked m first n (RefusedAt PastTheEnd here) left
-    turn-8 far clear = record { finding = ap (RefusedAt PastTheEnd) (turn .there) ∙ sym (found-8 m first n (turn .reached) (turn .more) (is-forbidden ∙ ok) (omega (arith, length-there))); left = cleared clear }
+    pub turn-8 : n - at < s .0 → {left : List ℕ} → left ≡ replicate (length marks) 0 → Finds walked m first n (RefusedAt PastTheEnd here) left
+    turn-8 far clear = record { finding = ap (RefusedAt PastTheEnd) (turn .there) ∙ sym (found-8 m first n (turn .reached) (turn .more) (is-forbidden ∙ ok) (omega (arith, length-there))); marks = cleared clear }
 
     pub turn-on : s .0 ≤ n - at → Reached m first n (at + s .0) (set marks at 1)
     turn-on fits =

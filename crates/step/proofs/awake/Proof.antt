@@ -6,11 +6,19 @@ use Rattle.step.proofs.awake.Tie as tie
 
 returns : tie.Need-returns
 returns c =
-    record { there = awake-dispatches _ _ _ _ _ _ _ _ _ (c .before .before .before .before .before .before .before .is-interrupted .ensures) (c .before .before .before .before .if1 .taken) (c .before .before .dispatch .ensures .there); whole = c .before .before .dispatch .ensures .whole }
+    let at-dispatch = c .before .before in
+    let at-test = at-dispatch .before .before in
+    let called = at-test .before .before .before .is-interrupted .ensures in
+    let dispatch = at-dispatch .dispatch .ensures in
+    record { there = awake-dispatches _ _ _ _ _ _ _ _ _ called (at-test .if1 .taken) (dispatch .there); whole = dispatch .whole }
 
 returns-2 : tie.Need-returns-2
 returns-2 c =
-    record { there = awake-runs _ _ _ _ _ _ _ _ _ (c .before .before .before .before .before .before .before .is-interrupted .ensures) (c .before .before .before .before .if1 .left) (c .before .before .run-one .ensures .there); whole = c .before .before .run-one .ensures .whole }
+    let at-run = c .before .before in
+    let at-test = at-run .before .before in
+    let called = at-test .before .before .before .is-interrupted .ensures in
+    let run = at-run .run-one .ensures in
+    record { there = awake-runs _ _ _ _ _ _ _ _ _ called (at-test .if1 .left) (run .there); whole = run .whole }
 
 pub awake-spec : {M : Type 1} → statement M
 awake-spec =

@@ -9,11 +9,20 @@ use Rattle.step.proofs.run_one.Statement.{statement}
 use Rattle.step.proofs.run_one.Tie as tie
 
 exec-instruction-requires : tie.Need-exec-instruction-requires
-exec-instruction-requires c κs = record { whole = c .before .before .before .before .before .before .before .fetch-entry .ensures .left .whole; holds = subst (λ (i : Instruction). T (runnable i)) (sym (c .before .from-entry .ensures)) (c .before .before .before .before .before .before .before .fetch-entry .ensures .can-run) }
+exec-instruction-requires c κs =
+    let at-entry = c .before in
+    let entry = at-entry .from-entry .ensures in
+    let fetch = at-entry .before .before .before .before .before .before .fetch-entry .ensures in
+    record { whole = fetch .left .whole; holds = subst (λ (i : Instruction). T (runnable i)) (sym entry) (fetch .can-run) }
 
 returns : tie.Need-returns
 returns c =
-    record { there = executes _ _ _ _ _ _ _ _ _ _ _ _ _ (c .before .before .before .before .before .before .before .before .before .before .fetch-entry .ensures .left .there) (c .before .before .before .before .from-entry .ensures) (c .before .before .exec-instruction .ensures .there); whole = c .before .before .exec-instruction .ensures .whole }
+    let at-exec = c .before .before in
+    let at-entry = at-exec .before .before in
+    let fetch = at-entry .before .before .before .before .before .before .fetch-entry .ensures in
+    let entry = at-entry .from-entry .ensures in
+    let exec = at-exec .exec-instruction .ensures in
+    record { there = executes _ _ _ _ _ _ _ _ _ _ _ _ _ (fetch .left .there) entry (exec .there); whole = exec .whole }
 
 pub run-one-spec : {M : Type 1} → statement M
 run-one-spec =

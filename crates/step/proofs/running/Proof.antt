@@ -6,13 +6,22 @@ use Rattle.step.proofs.running.Tie as tie
 
 returns : tie.Need-returns
 returns c =
-    let on = c .before .before .before .before .before .before .before .before .pre in
-    record { there = sleeps-on _ _ _ (on .holds .not-stopped) (on .holds .no-transfer) _ _ _ _ (c .before .before .before .before .before .wake .ensures .there) (c .if1 .taken); whole = c .before .before .before .before .before .wake .ensures .whole }
+    let at-wake = c .before .before .before .before .before in
+    let on = at-wake .before .before .before .pre .holds in
+    let wake = at-wake .wake .ensures in
+    let asleep = c .if1 .taken in
+    record { there = sleeps-on _ _ _ (on .not-stopped) (on .no-transfer) _ _ _ _ (wake .there) asleep; whole = wake .whole }
 
 returns-2 : tie.Need-returns-2
 returns-2 c =
-    let on = c .before .before .before .before .before .before .before .before .before .before .before .before .pre in
-    record { there = steps _ _ _ (on .holds .not-stopped) (on .holds .no-transfer) _ _ _ _ (c .before .before .before .before .before .before .before .before .before .wake .ensures .there) _ _ _ _ (c .before .before .before .before .if1 .left) (c .before .before .awake .ensures .there); whole = c .before .before .awake .ensures .whole }
+    let at-awake = c .before .before in
+    let at-sleep = at-awake .before .before in
+    let at-wake = at-sleep .before .before .before .before .before in
+    let on = at-wake .before .before .before .pre .holds in
+    let wake = at-wake .wake .ensures in
+    let not-asleep = at-sleep .if1 .left in
+    let awake = at-awake .awake .ensures in
+    record { there = steps _ _ _ (on .not-stopped) (on .no-transfer) _ _ _ _ (wake .there) _ _ _ _ not-asleep (awake .there); whole = awake .whole }
 
 pub running-spec : {M : Type 1} → statement M
 running-spec = tie.close (tie.spec (λ c κs. search needs) (λ c κs. search needs) (λ c. search needs) returns (λ c. search needs) returns-2)

@@ -10,11 +10,16 @@ pc-fits : tie.Need-put-word-requires-2
 pc-fits c κs = omega (arith, simp length-set at (c .before .before .before .put-word .kept .0))
 
 same-length : tie.Need-same-length
-same-length c = omega (arith, c .before .before .put-word2 .kept .0, simp length-set at (c .before .before .before .before .before .before .put-word .kept .0))
+same-length c =
+    let at-pc = c .before .before in
+    let at-sp = at-pc .before .before .before .before in
+    omega (arith, at-pc .put-word2 .kept .0, simp length-set at (at-sp .put-word .kept .0))
 
 returns : tie.Need-returns
 returns c =
-    simp (c .before .before .put-word2 .ensures, c .before .before .before .before .before .before .put-word .ensures, ahead 1, ahead 2, ahead 3, ahead 4, ahead 5, ahead 6, ahead 7, ahead 8, ahead 10)
+    let at-pc = c .before .before in
+    let at-sp = at-pc .before .before .before .before in
+    simp (at-pc .put-word2 .ensures, at-sp .put-word .ensures, ahead 1, ahead 2, ahead 3, ahead 4, ahead 5, ahead 6, ahead 7, ahead 8, ahead 10)
 
 pub put-registers-spec : {M : Type 1} → statement M
 put-registers-spec =

@@ -4,7 +4,10 @@ use Rattle.blocks.proofs.state.state_at.Statement.{statement}
 use Rattle.blocks.proofs.state.state_at.Tie as tie
 
 returns : tie.Need-returns
-returns c = simp (c .before .before .before .halt-of .ensures, c .before .before .before .before .before .before .before .front-registers .ensures)
+returns c =
+    let at-halt = c .before .before .before in
+    let at-registers = at-halt .before .before .before .before in
+    simp (at-halt .halt-of .ensures, at-registers .front-registers .ensures)
 
 pub state-at-spec : {M : Type 1} → statement M
 state-at-spec = tie.close (tie.spec (λ c κs. search needs) (λ c. search needs) (λ c. search needs) (λ c. search needs) (λ c κs. search needs) (λ c. search needs) (λ c. search needs) (λ c. search needs) returns)

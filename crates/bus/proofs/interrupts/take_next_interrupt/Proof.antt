@@ -7,14 +7,24 @@ use Rattle.bus.proofs.interrupts.take_next_interrupt.Tie as tie
 
 none : tie.Need-returns
 none c =
-    let look = c .before .before .before .before .lowest-pending .ensures in
-    record { seen = look .seen; left = look .same ∙ none-taken _ _ (look .seen) (c .enum-told .given .1); whole = look .whole }
+    let looked = c .before .before .before .before in
+    let look = looked .lowest-pending .ensures in
+    let none-pending = c .enum-told .given .1 in
+    record { seen = look .seen; left = look .same ∙ none-taken _ _ (look .seen) none-pending; whole = look .whole }
 
 one : tie.Need-returns-2
 one c =
-    let look = c .before .before .before .before .before .before .before .before .before .lowest-pending .ensures in
-    let clear = c .before .before .acknowledge .ensures in
-    record { seen = sym (c .before .before .before .before .before .next .given .1) ∙ look .seen; left = rw (← look .same) (one-taken _ _ _ _ (rw (look .same) (look .seen)) (c .before .before .before .before .before .next .given .1) (clear .left)); whole = clear .whole }
+    let cleared = c .before .before in
+    let clear = cleared .acknowledge .ensures in
+    let in-arm = cleared .before .before .before in
+    let pending = in-arm .next .given .1 in
+    let looked = in-arm .before .before .before .before in
+    let look = looked .lowest-pending .ensures in
+    record {
+      seen = sym pending ∙ look .seen;
+      left = rw (← look .same) (one-taken _ _ _ _ (rw (look .same) (look .seen)) pending (clear .left));
+      whole = clear .whole;
+    }
 
 pub take-next-interrupt-spec : {M : Type 1} → statement M
 take-next-interrupt-spec = tie.close (tie.spec (λ c κs. search needs) (λ c. search needs) (λ c. search needs) (λ c κs. search needs) (λ c. search needs) none (λ c. search needs) one)

@@ -6,8 +6,11 @@ use Rattle.bus.proofs.interrupts.write_and_take.Tie as tie
 
 returns : tie.Need-returns
 returns c =
-    let take = c .before .before .take-next-interrupt .ensures in
-    has-taken _ _ _ _ _ _ _ _ (c .before .before .before .before .before .before .write .ensures) (take .seen) (take .left) (take .whole)
+    let last = c .before .before in
+    let first = last .before .before .before .before in
+    let push = first .write .ensures in
+    let take = last .take-next-interrupt .ensures in
+    has-taken _ _ _ _ _ _ _ _ push (take .seen) (take .left) (take .whole)
 
 pub write-and-take-spec : {M : Type 1} → statement M
 write-and-take-spec = tie.close (tie.spec (λ c κs. search needs) (λ c κs. search needs) (λ c. search needs) returns)

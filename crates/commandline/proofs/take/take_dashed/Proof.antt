@@ -6,7 +6,10 @@ use Rattle.commandline.proofs.take.take_dashed.Tie as tie
 
 returns : tie.Need-returns
 unfolding takeDashed
-returns c = simp (c .take-option .ensures, c .before .before .part .given .1, ← c .before .before .before .before .option-named .ensures)
+returns c =
+    let in-arm = c .before .before in
+    let named = in-arm .before .before .option-named .ensures in
+    simp (c .take-option .ensures, in-arm .part .given .1, ← named)
 
 returns-2 : tie.Need-returns-2
 unfolding takeDashed

@@ -6,11 +6,19 @@ use Rattle.commandline.proofs.take.take_value.Tie as tie
 
 returns : tie.Need-returns
 unfolding keeps
-returns c = simp (c .kept .ensures, c .before .before .given .given .1, ← c .before .before .before .before .value-in .ensures, ← c .before .before .before .before .before .kind-of .ensures)
+returns c =
+    let in-arm = c .before .before in
+    let at-value = in-arm .before .before in
+    let kind = at-value .before .kind-of .ensures in
+    simp (c .kept .ensures, in-arm .given .given .1, ← at-value .value-in .ensures, ← kind)
 
 returns-2 : tie.Need-returns-2
 unfolding keeps
-returns-2 c = simp (c .with-stage .ensures, c .before .before .mistake .given .1, ← c .before .before .before .before .value-in .ensures, ← c .before .before .before .before .before .kind-of .ensures)
+returns-2 c =
+    let in-arm = c .before .before in
+    let at-value = in-arm .before .before in
+    let kind = at-value .before .kind-of .ensures in
+    simp (c .with-stage .ensures, in-arm .mistake .given .1, ← at-value .value-in .ensures, ← kind)
 
 pub take-value-spec : {M : Type 1} → statement M
 take-value-spec = tie.close (tie.spec (λ c κs. search needs) (λ c κs. search needs) (λ c. search needs) (λ c κs. search needs) (λ c. search needs) (λ c κs. search needs) returns returns-2)

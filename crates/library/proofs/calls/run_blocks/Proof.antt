@@ -9,10 +9,26 @@ wrong-answer : tie.Need-returns
 wrong-answer c = wrong-answer-block _ _ _ _ (c .if1 .taken)
 
 wrong-state : tie.Need-returns-2
-wrong-state c = wrong-state-block _ _ _ _ (c .before .before .before .before .if1 .left) (sym (c .before .before .read-state .ensures) ∙ c .enum-told .given .1)
+wrong-state c =
+    let at-read = c .before .before in
+    let right-length = at-read .before .before .if1 .left in
+    let malformed = sym (at-read .read-state .ensures) ∙ c .enum-told .given .1 in
+    wrong-state-block _ _ _ _ right-length malformed
 
 ran : tie.Need-returns-3
-ran c = both-written _ _ _ _ _ _ _ _ _ _ (c .before .before .before .before .before .before .before .before .before .before .before .before .before .before .before .before .before .before .before .before .if1 .left) (sym (c .before .before .before .before .before .before .before .before .before .before .before .before .before .before .before .before .before .before .read-state .ensures) ∙ c .before .before .before .before .before .before .before .before .before .before .before .before .before .before .before .before .read .given .1) (c .before .before .before .before .before .before .before .before .before .before .before .before .before .run .ensures) (c .before .before .before .before .before .before .before .write-state .ensures) (c .before .before .before .write-answer .ensures) (c .number .ensures)
+ran c =
+    let at-answer = c .before .before .before in
+    let at-write = at-answer .before .before .before .before in
+    let at-run = at-write .before .before .before .before .before .before in
+    let in-arm = at-run .before .before .before in
+    let at-read = in-arm .before .before in
+    let right-length = at-read .before .before .if1 .left in
+    let state = sym (at-read .read-state .ensures) ∙ in-arm .read .given .1 in
+    let run = at-run .run .ensures in
+    let state-written = at-write .write-state .ensures in
+    let answer-written = at-answer .write-answer .ensures in
+    let number = c .number .ensures in
+    both-written _ _ _ _ _ _ _ _ _ _ right-length state run state-written answer-written number
 
 pub run-blocks-spec : {M : Type 1} → statement M
 run-blocks-spec =

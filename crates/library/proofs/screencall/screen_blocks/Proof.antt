@@ -8,7 +8,14 @@ wrong-block : tie.Need-returns
 wrong-block c = wrong-verdict-block _ _ _ _ _ (c .if1 .taken)
 
 screened : tie.Need-returns-2
-screened c = verdict-written _ _ _ _ _ _ _ _ _ (c .before .before .before .before .before .before .before .before .before .if1 .left) (c .before .before .before .before .before .before .before .screen .ensures .0) (c .before .before .before .before .before .before .before .screen .ensures .1) (c .before .before .before .write-verdict .ensures) (c .number .ensures)
+screened c =
+    let at-write = c .before .before .before in
+    let at-screen = at-write .before .before .before .before in
+    let right-length = at-screen .before .before .if1 .left in
+    let screen = at-screen .screen .ensures in
+    let verdict-block = at-write .write-verdict .ensures in
+    let number = c .number .ensures in
+    verdict-written _ _ _ _ _ _ _ _ _ right-length (screen .verdict) (screen .marks) verdict-block number
 
 pub screen-blocks-spec : {M : Type 1} → statement M
 screen-blocks-spec =

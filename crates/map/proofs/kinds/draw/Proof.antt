@@ -22,13 +22,18 @@ loop-again : tie.Need-loop-again Inv-loop μ-loop
 loop-again c =
     let turn = c .before .before .before in
     let there = turn .before .loop in
-    onward _ _ _ _ (there .inv) (turn .loop-test .taken) _ (c .before .cell-at .ensures ∙ ap (cellAt (turn .before .before .stop-of .result) (there .cell) (there .at .0)) (c .before .before .byte .ensures)) _ (c .wrapping-add .ensures)
+    let byte = c .before .before .byte .ensures in
+    let stop = turn .before .before .stop-of .result in
+    onward _ _ _ _ (there .inv) (turn .loop-test .taken) _ (c .before .cell-at .ensures ∙ ap (cellAt stop (there .cell) (there .at .0)) byte) _ (c .wrapping-add .ensures)
 
 returns : tie.Need-returns Inv-loop μ-loop
 unfolding kindsOf
 returns c =
-    let args = c .before .before .before .before .before .args in
-    ended _ _ _ _ (c .before .loop .inv) (c .loop-test .left) ∙ ap (λ (stop : Stop). kindsFrom (args .mem .now) stop (cell 0 0) (args .first .0) (length (args .kinds .now))) (c .before .before .stop-of .ensures)
+    let at-loop = c .before in
+    let at-stop = at-loop .before in
+    let args = at-stop .before .before .before .args in
+    let stop-there = at-stop .stop-of .ensures in
+    ended _ _ _ _ (at-loop .loop .inv) (c .loop-test .left) ∙ ap (λ (stop : Stop). kindsFrom (args .mem .now) stop (cell 0 0) (args .first .0) (length (args .kinds .now))) stop-there
 
 pub draw-spec : {M : Type 1} → statement M
 draw-spec =

@@ -25,7 +25,9 @@ loop-holds c = (omega arith, sym (none _), sym (none _))
 add-instructions : tie.Need-add-instructions Inv-loop μ-loop
 add-instructions c =
     let turn = c .before .before .before .before in
-    omega (arith, bounded (startsAt (turn .before .before .before .before .args .marks .now)) (turn .before .loop .i) _ _ (turn .before .loop .inv .1) (c .one-if .ensures))
+    let at = turn .before .loop in
+    let marks = turn .before .before .before .before .args .marks .now in
+    omega (arith, bounded (startsAt marks) (at .i) _ _ (at .inv .1) (c .one-if .ensures))
 
 module _ (c : tie.After-one-if2 Inv-loop μ-loop) where
   abbrev turn : tie.In-loop Inv-loop μ-loop
@@ -35,10 +37,16 @@ module _ (c : tie.After-one-if2 Inv-loop μ-loop) where
   marks = turn .before .before .before .before .args .marks .now
 
   abbrev isJumpAt : ℕ → Bool
-  isJumpAt = jumpsAt (turn .before .before .before .before .args .mem .now) (turn .before .before .before .before .args .first .0) marks
+  isJumpAt =
+      let args = turn .before .before .before .before .args in
+      jumpsAt (args .mem .now) (args .first .0) marks
 
   jump-here : c .one-if2 .result ≡ bit (isJumpAt (turn .before .loop .i))
-  jump-here = c .one-if2 .ensures ∙ ap (λ (j : Bool). bit (startsAt marks (turn .before .loop .i) && j)) (c .before .before .is-jump .ensures ∙ ap isJump (c .before .before .before .byte-in .ensures))
+  jump-here =
+      let at-jump = c .before .before in
+      let byte = at-jump .before .byte-in .ensures in
+      let is-jump = at-jump .is-jump .ensures ∙ ap isJump byte in
+      c .one-if2 .ensures ∙ ap (λ (j : Bool). bit (startsAt marks (turn .before .loop .i) && j)) is-jump
 
 add-jumps : tie.Need-add-jumps Inv-loop μ-loop
 add-jumps c = omega (arith, bounded (isJumpAt c) (turn c .before .loop .i) _ _ (turn c .before .loop .inv .2) (jump-here c))
@@ -46,14 +54,17 @@ add-jumps c = omega (arith, bounded (isJumpAt c) (turn c .before .loop .i) _ _ (
 loop-again : tie.Need-loop-again Inv-loop μ-loop
 loop-again c =
     let there = turn c .before .loop in
-    (omega arith, one-more (startsAt (marks c)) (there .i) _ _ (there .inv .1) (c .before .one-if .ensures), one-more (isJumpAt c) (there .i) _ _ (there .inv .2) (jump-here c))
+    let starts = one-more (startsAt (marks c)) (there .i) _ _ (there .inv .1) (c .before .one-if .ensures) in
+    let jumps = one-more (isJumpAt c) (there .i) _ _ (there .inv .2) (jump-here c) in
+    (omega arith, starts, jumps)
 
 returns : tie.Need-returns Inv-loop μ-loop
 unfolding countsOf
 returns c =
     let marks = c .before .before .before .before .args .marks .now in
-    let all : c .before .loop .i ≡ length marks = omega arith in
-    ap₂ {C = Counts} (λ (n k : ℕ). record { instructions = n; jumps = k }) (c .before .loop .inv .1 ∙ ap (howMany _) all) (c .before .loop .inv .2 ∙ ap (howMany _) all)
+    let at = c .before .loop in
+    let all : at .i ≡ length marks = omega arith in
+    ap₂ {C = Counts} (λ (n k : ℕ). record { instructions = n; jumps = k }) (at .inv .1 ∙ ap (howMany _) all) (at .inv .2 ∙ ap (howMany _) all)
 
 pub count-spec : {M : Type 1} → statement M
 count-spec =

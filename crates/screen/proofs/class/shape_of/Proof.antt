@@ -1,5 +1,6 @@
 -- Each arm is right by a computed test over all 256 bytes: the single numbers in the order of the arms, then the ranges, where a byte is no single number.
 use mathlib.Core.Path.{_≡_, refl}
+use mathlib.Core.Bool.{not}
 use mathlib.Core.List.{List, []}
 use Prim.Native.Nat.{ℕ, _<_}
 use native.Mathlib.Omega.{arith}
@@ -9,7 +10,7 @@ use types.Run.{OneOf}
 use Rattle.opcodes.specs.Instruction.{decode}
 use Rattle.screen.specs.declared.class.Shape.{Shape}
 use Rattle.screen.specs.Shapes.{shapeOf}
-use Rattle.screen.proofs.class.Arms.{armsOf, Right, Rest, by-number, by-range}
+use Rattle.screen.proofs.class.Arms.{armsOf, Right, Rest, isSingle, by-number, by-range}
 use Rattle.screen.proofs.class.shape_of.Statement.{statement}
 use Rattle.screen.proofs.class.shape_of.Tie as tie
 use Rattle.screen.proofs.class.shape_of.Code.Mir as code
@@ -25,6 +26,9 @@ numbers i = getD arms i []
 
 of : (i : ℕ) (s : Shape) → Right table 256 (hasKey (numbers i)) s → (b : ℕ) → b < 256 → OneOf (numbers i) b → s ≡ table b
 of i = by-number table 256 (numbers i)
+
+ranged : (s : Shape) → Right table 256 (λ b. not (isSingle arms b)) s → (b : ℕ) → b < 256 → Rest (Unit {0}) arms b → s ≡ table b
+ranged = by-range table 256 arms
 
 pub shape-of-spec : {M : Type 1} → statement M
 unfolding decode
@@ -52,13 +56,13 @@ shape-of-spec =
     (λ c. of 18 _ refl (c .before .args .opcode) (omega arith) (c .match .keys19))
     (λ c. of 19 _ refl (c .before .args .opcode) (omega arith) (c .match .keys20))
     (λ c. of 20 _ refl (c .before .args .opcode) (omega arith) (c .match .keys21))
-    (λ c. by-range table 256 arms _ refl (c .before .before .before .before .before .before .args .opcode) (omega arith) (c .before .before .before .before .before .match .rest))
-    (λ c. by-range table 256 arms _ refl (c .before .before .before .before .before .before .args .opcode) (omega arith) (c .before .before .before .before .before .match .rest))
-    (λ c. by-range table 256 arms _ refl (c .before .before .before .before .args .opcode) (omega arith) (c .before .before .before .match .rest))
-    (λ c. by-range table 256 arms _ refl (c .before .before .before .before .before .before .args .opcode) (omega arith) (c .before .before .before .before .before .match .rest))
-    (λ c. by-range table 256 arms _ refl (c .before .before .before .args .opcode) (omega arith) (c .before .before .match .rest))
-    (λ c. by-range table 256 arms _ refl (c .before .before .before .before .before .args .opcode) (omega arith) (c .before .before .before .before .match .rest))
-    (λ c. by-range table 256 arms _ refl (c .before .before .before .args .opcode) (omega arith) (c .before .before .match .rest))
-    (λ c. by-range table 256 arms _ refl (c .before .before .before .before .before .args .opcode) (omega arith) (c .before .before .before .before .match .rest))
-    (λ c. by-range table 256 arms _ refl (c .before .before .before .before .before .before .args .opcode) (omega arith) (c .before .before .before .before .before .match .rest))
-    (λ c. by-range table 256 arms _ refl (c .before .before .before .before .args .opcode) (omega arith) (c .before .before .before .match .rest)))
+    (λ c. let at-match = c .before .before .before .before .before in ranged _ refl (at-match .before .args .opcode) (omega arith) (at-match .match .rest))
+    (λ c. let at-match = c .before .before .before .before .before in ranged _ refl (at-match .before .args .opcode) (omega arith) (at-match .match .rest))
+    (λ c. let at-match = c .before .before .before in ranged _ refl (at-match .before .args .opcode) (omega arith) (at-match .match .rest))
+    (λ c. let at-match = c .before .before .before .before .before in ranged _ refl (at-match .before .args .opcode) (omega arith) (at-match .match .rest))
+    (λ c. let at-match = c .before .before in ranged _ refl (at-match .before .args .opcode) (omega arith) (at-match .match .rest))
+    (λ c. let at-match = c .before .before .before .before in ranged _ refl (at-match .before .args .opcode) (omega arith) (at-match .match .rest))
+    (λ c. let at-match = c .before .before in ranged _ refl (at-match .before .args .opcode) (omega arith) (at-match .match .rest))
+    (λ c. let at-match = c .before .before .before .before in ranged _ refl (at-match .before .args .opcode) (omega arith) (at-match .match .rest))
+    (λ c. let at-match = c .before .before .before .before .before in ranged _ refl (at-match .before .args .opcode) (omega arith) (at-match .match .rest))
+    (λ c. let at-match = c .before .before .before in ranged _ refl (at-match .before .args .opcode) (omega arith) (at-match .match .rest)))

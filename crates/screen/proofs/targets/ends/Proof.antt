@@ -9,13 +9,19 @@ use Rattle.screen.proofs.targets.ends.Tie as tie
 
 returns : tie.Need-returns
 returns c =
-    let args = c .before .before .before .before .before .before .before .before .args in
-    last-here (args .mem .now) (isMarked (args .marks .now) (args .first .0)) (args .first .0 + length (args .marks .now)) (args .at .0) _ (c .before .before .before .before .before .shape-at .ensures) (c .before .if1 .taken) _ (c .ends-routine .ensures)
+    let at-test = c .before in
+    let at-shape = at-test .before .before .before .before in
+    let args = at-shape .before .before .before .args in
+    let read = at-shape .shape-at .ensures in
+    let told = c .ends-routine .ensures in
+    last-here (args .mem .now) (isMarked (args .marks .now) (args .first .0)) (args .first .0 + length (args .marks .now)) (args .at .0) _ read (at-test .if1 .taken) _ told
 
 returns-2 : tie.Need-returns-2
 returns-2 c =
-    let args = c .before .before .before .before .before .before .before .args in
-    not-last (args .mem .now) (isMarked (args .marks .now) (args .first .0)) (args .first .0 + length (args .marks .now)) (args .at .0) _ (c .before .before .before .before .shape-at .ensures) (c .if1 .left)
+    let at-shape = c .before .before .before .before in
+    let args = at-shape .before .before .before .args in
+    let read = at-shape .shape-at .ensures in
+    not-last (args .mem .now) (isMarked (args .marks .now) (args .first .0)) (args .first .0 + length (args .marks .now)) (args .at .0) _ read (c .if1 .left)
 
 pub ends-spec : {M : Type 1} → statement M
 ends-spec =

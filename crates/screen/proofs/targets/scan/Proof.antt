@@ -25,23 +25,41 @@ loop-holds c =
 
 returns : tie.Need-returns Inv-loop μ-loop
 returns c =
-    let args = c .before .before .before .before .before .before .before .before .before .before .args in
-    let turn = c .before .before .before .before .before .before in
-    rw (c .refusal-of .ensures)
-    (sym (turn .before .loop .inv .1 ∙ failing (refusalOf (args .test)) (passes (args .test) (args .mem .now) (isMarked (args .marks .now) (args .first .0)) (args .first .0 + length (args .marks .now))) (args .first .0) (args .marks .now) (turn .before .loop .i) (turn .loop-test .taken) _ (c .before .before .before .address .ensures) _ (c .before .before .passes .ensures) (c .before .before .before .before .if1 .taken) (c .before .if2 .taken)))
+    let at-answer = c .before in
+    let at-passes = at-answer .before in
+    let at-address = at-passes .before in
+    let at-mark = at-address .before in
+    let turn = at-mark .before .before in
+    let at = turn .before .loop in
+    let args = turn .before .before .before .before .args in
+    let r = refusalOf (args .test) in
+    let test = passes (args .test) (args .mem .now) (isMarked (args .marks .now) (args .first .0)) (args .first .0 + length (args .marks .now)) in
+    let here = at-address .address .ensures in
+    let tested = at-passes .passes .ensures in
+    let found = failing r test (args .first .0) (args .marks .now) (at .i) (turn .loop-test .taken) _ here _ tested (at-mark .if1 .taken) (at-answer .if2 .taken) in
+    rw (c .refusal-of .ensures) (sym (at .inv .1 ∙ found))
 
 loop-again : tie.Need-loop-again Inv-loop μ-loop
 loop-again c =
-    let args = c .before .before .before .before .before .before .args in
     let turn = c .before .before in
+    let at = turn .before .loop in
+    let args = turn .before .before .before .before .args in
     let r = refusalOf (args .test) in
     let test = passes (args .test) (args .mem .now) (isMarked (args .marks .now) (args .first .0)) (args .first .0 + length (args .marks .now)) in
-    (omega arith, turn .before .loop .inv .1 ∙ ⊎-elim (λ w. passing r test (args .first .0) (args .marks .now) (turn .before .loop .i) (turn .loop-test .taken) _ (w .1 .ensures) _ (w .2 .ensures) (w .3 .left)) (λ w. unmarked r test (args .first .0) (args .marks .now) (turn .before .loop .i) (turn .loop-test .taken) (w .left)) (c .if1 .came))
+    let onward =
+    ⊎-elim
+    (λ w. passing r test (args .first .0) (args .marks .now) (at .i) (turn .loop-test .taken) _ (w .1 .ensures) _ (w .2 .ensures) (w .3 .left))
+    (λ w. unmarked r test (args .first .0) (args .marks .now) (at .i) (turn .loop-test .taken) (w .left))
+    (c .if1 .came) in
+    (omega arith, at .inv .1 ∙ onward)
 
 returns-2 : tie.Need-returns-2 Inv-loop μ-loop
 returns-2 c =
+    let at = c .before .loop in
     let args = c .before .before .before .before .args in
-    sym (c .before .loop .inv .1 ∙ none-left (refusalOf (args .test)) (passes (args .test) (args .mem .now) (isMarked (args .marks .now) (args .first .0)) (args .first .0 + length (args .marks .now))) (args .first .0) (args .marks .now) (c .before .loop .i) (c .loop-test .left))
+    let r = refusalOf (args .test) in
+    let test = passes (args .test) (args .mem .now) (isMarked (args .marks .now) (args .first .0)) (args .first .0 + length (args .marks .now)) in
+    sym (at .inv .1 ∙ none-left r test (args .first .0) (args .marks .now) (at .i) (c .loop-test .left))
 
 pub scan-spec : {M : Type 1} → statement M
 scan-spec =

@@ -7,15 +7,16 @@ use borrow.Author.Needs.{needs}
 use borrow.Author.Tests.{ltb-true, ltb-false}
 use lib.ListN.{length, replicate}
 use Rattle.routine.specs.declared.Verdict.{Verdict}
-use Rattle.routine.specs.Screen.{walk, marksAfter}
-use Rattle.screen.proofs.walk.Reached.{Reached, Walked, begun, ended}
+use Rattle.routine.specs.Screen.{marksAfter}
+use Rattle.screen.specs.Parts.{walked, Finds}
+use Rattle.screen.proofs.walk.Reached.{Reached, begun, ended}
 use Rattle.screen.proofs.walk.Turn.{Turn, some-length, turn-7, turn-8, turn-on}
 use Rattle.screen.proofs.walk.walk.Statement.{statement}
 use Rattle.screen.proofs.walk.walk.Tie as tie
 
 -- the loop counts the marks that were cleared: as many as came
-sized : {m : List ℕ} {first n k : ℕ} {r : Verdict} {left : List ℕ} → n ≡ k → Walked m first n r left → (r ≡ walk m first 0 first k) × (left ≡ marksAfter r m first k)
-sized {m} {first} {r = r} e w = (w .finding ∙ ap (walk m first 0 first) e, w .left ∙ ap (marksAfter r m first) e)
+sized : {m : List ℕ} {first n k : ℕ} {r : Verdict} {left : List ℕ} → n ≡ k → Finds walked m first n r left → Finds walked m first k r left
+sized {m} {first} {r = r} e w = record { finding = w .finding ∙ ap (walked m first) e; marks = w .marks ∙ ap (marksAfter r m first) e }
 
 abbrev Inv-loop : tie.InvT-loop
 Inv-loop mem first marks₀ n at₀ marks at = Reached mem (first .0) n at marks
@@ -25,18 +26,63 @@ abbrev μ-loop : tie.MeasureT-loop
 
 loop-holds : tie.Need-loop-holds Inv-loop μ-loop
 loop-holds c =
-    let args = c .before .before .before .before .before .before .args in
-    let clear = c .before .before .clear in
+    let at-clear = c .before .before in
+    let args = at-clear .before .before .before .before .args in
+    let clear = at-clear .clear in
     begun (args .mem .now) (args .first .0) (length (clear .last .0)) (clear .last .0) refl (clear .ensures ∙ ap (λ (j : ℕ). replicate j 0) (sym (clear .kept .0)))
 
-turned : (c : tie.After-is-forbidden Inv-loop μ-loop) → Turn (c .before .before .before .before .before .before .before .before .before .before .before .before .args .mem .now) (c .before .before .before .before .before .before .before .before .before .before .before .before .args .first .0) (length (c .before .before .before .before .before .before .before .before .clear .last .0)) (c .before .before .before .before .before .loop .at) (c .before .before .before .before .before .loop .marks) (c .before .before .before .address .result) (c .before .before .shape-at .result) (c .is-forbidden .result)
-turned c = record { reached = c .before .before .before .before .before .loop .inv; more = c .before .before .before .before .loop-test .taken; there = c .before .before .before .address .ensures; read = c .before .before .shape-at .ensures; told = c .is-forbidden .ensures }
+-- one turn, from the place after its three calls
+module _ (c : tie.After-is-forbidden Inv-loop μ-loop) where
+  abbrev at-shape : tie.After-shape-at Inv-loop μ-loop
+  at-shape = c .before .before
+
+  abbrev at-address : tie.After-address Inv-loop μ-loop
+  at-address = at-shape .before
+
+  abbrev in-loop : tie.In-loop Inv-loop μ-loop
+  in-loop = at-address .before
+
+  abbrev at-loop : tie.At-loop Inv-loop μ-loop
+  at-loop = in-loop .before
+
+  abbrev at-clear : tie.After-clear Inv-loop μ-loop
+  at-clear = at-loop .before .before .before
+
+  abbrev memory : List ℕ
+  memory = at-clear .before .before .before .before .args .mem .now
+
+  abbrev start : ℕ
+  start = at-clear .before .before .before .before .args .first .0
+
+  -- the marks that were cleared
+  abbrev lent : List ℕ
+  lent = at-clear .clear .last .0
+
+  turned : Turn memory start (length lent) (at-loop .loop .at) (at-loop .loop .marks) (at-address .address .result) (at-shape .shape-at .result) (c .is-forbidden .result)
+  turned =
+      record {
+        reached = at-loop .loop .inv;
+        more = in-loop .loop-test .taken;
+        there = at-address .address .ensures;
+        read = at-shape .shape-at .ensures;
+        told = c .is-forbidden .ensures;
+      }
 
 returns : tie.Need-returns Inv-loop μ-loop
-returns c = sized (c .before .before .before .before .before .before .before .before .before .before .before .before .before .clear .kept .0) (turn-7 (turned (c .before .before .before .before .before)) (c .before .before .before .before .if1 .taken) (c .before .before .clear2 .ensures))
+returns c =
+    let at-clear-again = c .before .before in
+    let at-test = at-clear-again .before .before in
+    let turn = at-test .before in
+    sized (at-clear turn .clear .kept .0) (turn-7 (turned turn) (at-test .if1 .taken) (at-clear-again .clear2 .ensures))
 
 returns-2 : tie.Need-returns-2 Inv-loop μ-loop
-returns-2 c = sized (c .before .before .before .before .before .before .before .before .before .before .before .before .before .before .clear .kept .0) (turn-8 (turned (c .before .before .before .before .before .before)) (c .before .before .before .before .before .if1 .left) (ltb-true _ _ (c .before .before .before .before .if2 .taken)) (c .before .before .clear3 .ensures))
+returns-2 c =
+    let at-clear-again = c .before .before in
+    let at-length-test = at-clear-again .before .before in
+    let at-test = at-length-test .before in
+    let turn = at-test .before in
+    let too-long = ltb-true _ _ (at-length-test .if2 .taken) in
+    sized (at-clear turn .clear .kept .0) (turn-8 (turned turn) (at-test .if1 .left) too-long (at-clear-again .clear3 .ensures))
 
 loop-less : tie.Need-loop-less Inv-loop μ-loop
 loop-less c = omega (arith, ltb-false, some-length (turned (c .before .before)))
@@ -46,8 +92,11 @@ loop-again c = turn-on (turned (c .before .before)) (c .before .if1 .left) (ltb-
 
 returns-3 : tie.Need-returns-3 Inv-loop μ-loop
 returns-3 c =
-    let args = c .before .before .before .before .before .before .before .before .args in
-    sized (c .before .before .before .before .clear .kept .0) (ended (args .mem .now) (args .first .0) (length (c .before .before .before .before .clear .last .0)) (c .before .loop .inv) (c .loop-test .left))
+    let at-loop = c .before in
+    let at-clear = at-loop .before .before .before in
+    let clear = at-clear .clear in
+    let args = at-clear .before .before .before .before .args in
+    sized (clear .kept .0) (ended (args .mem .now) (args .first .0) (length (clear .last .0)) (at-loop .loop .inv) (c .loop-test .left))
 
 pub walk-spec : {M : Type 1} → statement M
 walk-spec =

@@ -6,8 +6,10 @@ use Rattle.step.proofs.dispatch.is_interrupted.Tie as tie
 
 returns : tie.Need-returns
 returns c =
-    let peek = c .before .before .before .peek-next-interrupt in
-    record { there = λ port rest. simp (c .before .before .before .before .before .if1 .taken, c .is-pending .ensures) (peek .ensures .there port (λ i. rest (isPending i))); whole = peek .ensures .whole }
+    let at-peek = c .before .before .before in
+    let enabled = at-peek .before .before .if1 .taken in
+    let peek = at-peek .peek-next-interrupt .ensures in
+    record { there = λ port rest. simp (enabled, c .is-pending .ensures) (peek .there port (λ i. rest (isPending i))); whole = peek .whole }
 
 returns-2 : tie.Need-returns-2
 returns-2 c = record { there = λ port rest. simp (c .if1 .left); whole = c .before .before .pre }

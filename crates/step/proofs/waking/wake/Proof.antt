@@ -6,7 +6,11 @@ use Rattle.step.proofs.waking.wake.Statement.{statement}
 use Rattle.step.proofs.waking.wake.Tie as tie
 
 rest-requires : tie.Need-rest-requires
-rest-requires c κs = record { whole = c .before .before .before .before .pre; holds = sym (c .before .before .is-asleep .ensures) ∙ c .before .if1 .taken }
+rest-requires c κs =
+    let at-test = c .before in
+    let start = at-test .before .before .before in
+    let asleep = sym (at-test .before .is-asleep .ensures) ∙ at-test .if1 .taken in
+    record { whole = start .pre; holds = asleep }
 
 returns : tie.Need-returns
 returns c = c .before .before .idle-asleep .ensures

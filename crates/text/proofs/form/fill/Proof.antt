@@ -27,12 +27,11 @@ loop-again c =
     let put = c .before .before .before in
     let turn = put .before .before .before .before in
     let at = turn .before .loop in
-    let args = turn .before .before .before .before .before .before .args in (
-      omega arith,
-      omega (arith, c .takes .ensures .1),
-      put .put-meant .kept .0 ∙ at .inv .2,
-      one-byte (args .form .now) (args .values .now) (args .word .now) (at .k) (at .i) (turn .loop-test .taken) (put .before .value-at .ensures) (c .takes .ensures .0) (put .put-meant .ensures) ∙ at .inv .3,
-    )
+    let args = turn .before .before .before .before .before .before .args in
+    let value = put .before .value-at .ensures in
+    let taken = c .takes .ensures in
+    let byte = one-byte (args .form .now) (args .values .now) (args .word .now) (at .k) (at .i) (turn .loop-test .taken) value (taken .is) (put .put-meant .ensures) in
+    (omega arith, omega (arith, taken .small), put .put-meant .kept .0 ∙ at .inv .2, byte ∙ at .inv .3)
 
 returns : tie.Need-returns Inv-loop μ-loop
 returns c = record { is = no-byte _ _ _ (c .before .loop .k) (c .before .loop .i) (c .loop-test .left) ∙ c .before .loop .inv .3 }

@@ -22,7 +22,7 @@ returns : tie.Need-returns Inv-loop μ-loop
 returns c =
     let turn = c .before .before in
     let at = turn .before .loop in
-    (omega arith, stops _ _ (at .i) (at .inv .1) (turn .loop-test .taken) (c .if1 .taken))
+    record { inside = omega arith; leaves = stops _ _ (at .i) (at .inv .1) (turn .loop-test .taken) (c .if1 .taken) }
 
 loop-again : tie.Need-loop-again Inv-loop μ-loop
 loop-again c =
@@ -31,7 +31,9 @@ loop-again c =
     (omega arith, goes-on _ _ (at .i) (at .inv .1) (turn .loop-test .taken) (c .if1 .left))
 
 returns-2 : tie.Need-returns-2 Inv-loop μ-loop
-returns-2 c = (omega arith, at-the-end _ _ (c .before .loop .i) (c .before .loop .inv .1) (c .loop-test .left))
+returns-2 c =
+    let at = c .before .loop in
+    record { inside = omega arith; leaves = at-the-end _ _ (at .i) (at .inv .1) (c .loop-test .left) }
 
 pub end-of-spec : {M : Type 1} → statement M
 end-of-spec = tie.close (tie.spec Inv-loop μ-loop loop-holds (λ c. omega arith) returns (λ c. omega arith) (λ c. omega arith) loop-again returns-2)

@@ -11,13 +11,16 @@ use Rattle.text.proofs.lines.names.Statement.{statement}
 use Rattle.text.proofs.lines.names.Tie as tie
 
 lent : tie.Need-slice-aggregate-same
-lent c = sym (length-take-le _ _ (c .before .end-of .ensures .0))
+lent c = sym (length-take-le _ _ (c .before .end-of .ensures .inside))
 
 returns : tie.Need-returns
 unfolding names
 returns c =
-    let word = c .before .before .before .before .before .before .args .word .now in
-    simp (c .before .before .before .if1 .taken) (c .same .ensures ∙ ap (λ (l : List ℕ). sameBytes l word) (c .before .before .end-of .ensures .1))
+    let at-end = c .before .before in
+    let at-test = at-end .before in
+    let word = at-test .before .before .before .args .word .now in
+    let in-front = at-end .end-of .ensures .leaves in
+    simp (at-test .if1 .taken) (c .same .ensures ∙ ap (λ (l : List ℕ). sameBytes l word) in-front)
 
 returns-2 : tie.Need-returns-2
 unfolding names

@@ -24,7 +24,8 @@ returns c =
     let turn = c .before .before .before in
     let at = turn .before .loop in
     let args = turn .before .before .before .before .args in
-    sym (word-here (args .text .now) (args .word .now) (at .n) (at .starts) (at .i) (turn .loop-test .taken) (tested _ _ (at .n) _ (at .i) (c .before .names .ensures) (c .if1 .taken))) ∙ at .inv .2
+    let named = tested _ _ (at .n) _ (at .i) (c .before .names .ensures) (c .if1 .taken) in
+    sym (word-here (args .text .now) (args .word .now) (at .n) (at .starts) (at .i) (turn .loop-test .taken) named) ∙ at .inv .2
 
 loop-again : tie.Need-loop-again Inv-loop μ-loop
 loop-again c =
@@ -33,10 +34,15 @@ loop-again c =
     let at = turn .before .loop in
     let args = turn .before .before .before .before .args in
     let b = getD (args .text .now) (at .i) 0 in
-    (omega arith, omega (arith, c .line-end .ensures .1), ap (λ (k : ℕ). numberFrom (at .n + k) (ltb b 33) (drop (at .i + 1) (args .text .now)) (args .word .now)) (c .line-end .ensures .0) ∙ word-passed (args .text .now) (args .word .now) (at .n) (at .starts) (at .i) (turn .loop-test .taken) (tested _ _ (at .n) _ (at .i) (past .before .names .ensures) (past .if1 .left)) ∙ at .inv .2)
+    let counted = ap (λ (k : ℕ). numberFrom (at .n + k) (ltb b 33) (drop (at .i + 1) (args .text .now)) (args .word .now)) (c .line-end .ensures .is) in
+    let other-word = tested _ _ (at .n) _ (at .i) (past .before .names .ensures) (past .if1 .left) in
+    let passed = word-passed (args .text .now) (args .word .now) (at .n) (at .starts) (at .i) (turn .loop-test .taken) other-word in
+    (omega arith, omega (arith, c .line-end .ensures .small), counted ∙ passed ∙ at .inv .2)
 
 returns-2 : tie.Need-returns-2 Inv-loop μ-loop
-returns-2 c = let at = c .before .loop in sym (no-word _ _ (at .n) (at .starts) (at .i) (c .loop-test .left)) ∙ at .inv .2
+returns-2 c =
+    let at = c .before .loop in
+    sym (no-word _ _ (at .n) (at .starts) (at .i) (c .loop-test .left)) ∙ at .inv .2
 
 pub number-of-spec : {M : Type 1} → statement M
 number-of-spec =

@@ -20,19 +20,21 @@ loop-holds c = (omega arith, refl)
 returns : tie.Need-returns Inv-loop μ-loop
 returns c =
     let at = c .before .before .loop in
-    (omega arith, sym (starts-here _ (at .i) (at .left) (c .before .loop-test .taken) (c .if1 .taken)) ∙ at .inv .1)
+    record { inside = omega arith; leaves = sym (starts-here _ (at .i) (at .left) (c .before .loop-test .taken) (c .if1 .taken)) ∙ at .inv .1 }
 
 loop-again : tie.Need-loop-again Inv-loop μ-loop
 loop-again c =
     let turn = c .before .before .before in
     let at = turn .before .loop in
     let text = turn .before .before .before .args .text .now in
-    (omega arith, ap (λ (n : ℕ). fromLine (at .left - n) (drop (at .i + 1) text)) (c .line-end .ensures .0) ∙ line-passed _ (at .i) (at .left) (turn .loop-test .taken) (c .before .before .if1 .left) ∙ at .inv .1)
+    let fewer = ap (λ (n : ℕ). fromLine (at .left - n) (drop (at .i + 1) text)) (c .line-end .ensures .is) in
+    let passed = line-passed text (at .i) (at .left) (turn .loop-test .taken) (c .before .before .if1 .left) in
+    (omega arith, fewer ∙ passed ∙ at .inv .1)
 
 returns-2 : tie.Need-returns-2 Inv-loop μ-loop
 returns-2 c =
     let at = c .before .loop in
-    (omega arith, sym (none-there _ (at .i) (at .left) (c .loop-test .left)) ∙ at .inv .1)
+    record { inside = omega arith; leaves = sym (none-there _ (at .i) (at .left) (c .loop-test .left)) ∙ at .inv .1 }
 
 pub start-of-spec : {M : Type 1} → statement M
 start-of-spec =

@@ -10,11 +10,11 @@ returns c = simp (c .if1 .taken)
 
 returns-2 : tie.Need-returns-2
 unfolding grown
-returns-2 c = simp (c .if2 .taken, ← c .before .times-base .ensures .0, c .before .before .if1 .left)
+returns-2 c = simp (c .if2 .taken, ← c .before .times-base .ensures .is, c .before .before .if1 .left)
 
 returns-3 : tie.Need-returns-3
 unfolding grown
-returns-3 c = simp (c .if2 .left, ← c .before .times-base .ensures .0, c .before .before .if1 .left)
+returns-3 c = simp (c .if2 .left, ← c .before .times-base .ensures .is, c .before .before .if1 .left)
 
 pub grown-spec : {M : Type 1} → statement M
 grown-spec = tie.close (tie.spec returns (λ c κs. search needs) (λ c. search needs) returns-2 returns-3)

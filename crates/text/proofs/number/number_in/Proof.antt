@@ -21,9 +21,11 @@ loop-holds c = (omega arith, refl)
 
 loop-again : tie.Need-loop-again Inv-loop μ-loop
 loop-again c =
-    let at = c .before .before .before .loop in
-    let text = c .before .before .before .before .before .args .text .now in
-    (omega arith, ap (λ (r : Reading). reads r (drop (at .i + 1) text)) (c .read-byte .ensures) ∙ byte-read (at .r) text (at .i) (c .before .before .loop-test .taken) ∙ at .inv .1)
+    let turn = c .before .before in
+    let at = turn .before .loop in
+    let text = turn .before .before .before .args .text .now in
+    let read = ap (λ (r : Reading). reads r (drop (at .i + 1) text)) (c .read-byte .ensures) in
+    (omega arith, read ∙ byte-read (at .r) text (at .i) (turn .loop-test .taken) ∙ at .inv .1)
 
 returns : tie.Need-returns Inv-loop μ-loop
 returns c =

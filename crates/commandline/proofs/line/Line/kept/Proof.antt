@@ -4,7 +4,7 @@ use Rattle.commandline.proofs.line.Line.kept.Statement.{statement}
 use Rattle.commandline.proofs.line.Line.kept.Tie as tie
 
 returns : tie.Need-returns
-returns c = simp (c .place .ensures .0)
+returns c = simp (c .place .ensures .is)
 
 pub kept-spec : {M : Type 1} → statement M
 kept-spec = tie.close (tie.spec (λ c κs. search needs) (λ c. search needs) (λ c. search needs) returns)
