@@ -86,8 +86,8 @@ pub fn with_registers(cpu: Cpu, registers: CpuRegisters) -> Cpu
 pub fn fresh(cpu: Cpu) -> Cpu
     ensures { λ r. ⌜ r ≡ cpu ⌝ }
 {
-    let regs = cpu.registers;
-    with_registers(cpu, regs)
+    let own = cpu.registers;
+    with_registers(cpu, own)
 }
 
 // The state in another halt mode.
