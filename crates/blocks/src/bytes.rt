@@ -11,7 +11,7 @@ use sm83::CpuRegisters;
 use sm83::MCycles;
 use sm83::registers::pair;
 
-pub fn flag_byte(on: bool) -> u8
+pub(crate) fn flag_byte(on: bool) -> u8
     ensures { λ r. ⌜ r ≡ bit on ⌝ }
 {
     if on { 1 } else { 0 }
@@ -25,7 +25,7 @@ pub fn word_at(block: &[u8], at: usize) -> u16
 }
 
 // The registers at the front of a block.
-pub fn front_registers(block: &[u8]) -> CpuRegisters
+pub(crate) fn front_registers(block: &[u8]) -> CpuRegisters
     requires { ⌜ 12 ≤ length (now block) ⌝ }
     ensures { λ r. ⌜ r ≡ registersAt (now (block .entry)) 0 ⌝ }
 {
@@ -45,7 +45,7 @@ pub fn front_registers(block: &[u8]) -> CpuRegisters
     }
 }
 
-pub fn put_word(block: &mut [u8], at: usize, word: u16)
+pub(crate) fn put_word(block: &mut [u8], at: usize, word: u16)
     requires { ⌜ at + 1 < length (now block) ⌝ }
     ensures { λ _. ⌜ now (block .exit) ≡ sets (now (block .entry)) at (wordBytes word) ⌝ }
 {
@@ -53,7 +53,7 @@ pub fn put_word(block: &mut [u8], at: usize, word: u16)
     block[at + 1] = (word / 256) as u8;
 }
 
-pub fn put_count(block: &mut [u8], at: usize, count: MCycles)
+pub(crate) fn put_count(block: &mut [u8], at: usize, count: MCycles)
     requires { ⌜ at + 3 < length (now block) ⌝ }
     ensures { λ _. ⌜ now (block .exit) ≡ sets (now (block .entry)) at (countBytes (count .0)) ⌝ }
 {
@@ -62,7 +62,7 @@ pub fn put_count(block: &mut [u8], at: usize, count: MCycles)
     put_word(block, at + 2, (n / 65536) as u16);
 }
 
-pub fn put_registers(block: &mut [u8], at: usize, registers: CpuRegisters)
+pub(crate) fn put_registers(block: &mut [u8], at: usize, registers: CpuRegisters)
     requires { ⌜ at + 11 < length (now block) ⌝ }
     ensures { λ _. ⌜ now (block .exit) ≡ sets (now (block .entry)) at (registerBytes registers) ⌝ }
 {

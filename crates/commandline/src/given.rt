@@ -13,7 +13,7 @@ pub enum Given {
     Power(Power),
 }
 
-pub fn is_given(given: Given) -> bool
+pub(crate) fn is_given(given: Given) -> bool
     ensures { λ r. ⌜ r ≡ isGiven given ⌝ }
 {
     match given {
@@ -26,7 +26,7 @@ pub fn is_given(given: Given) -> bool
     }
 }
 
-pub fn word_or(given: Given, other: usize) -> usize
+pub(crate) fn word_or(given: Given, other: usize) -> usize
     ensures { λ r. ⌜ r ≡ wordOr given other ⌝ }
 {
     match given {
@@ -39,7 +39,7 @@ pub fn word_or(given: Given, other: usize) -> usize
     }
 }
 
-pub fn address_or(given: Given, other: u16) -> u16
+pub(crate) fn address_or(given: Given, other: u16) -> u16
     ensures { λ r. ⌜ r ≡ addressOr given other ⌝ }
 {
     match given {
@@ -52,7 +52,7 @@ pub fn address_or(given: Given, other: u16) -> u16
     }
 }
 
-pub fn number_or(given: Given, other: u64) -> u64
+pub(crate) fn number_or(given: Given, other: u64) -> u64
     ensures { λ r. ⌜ r ≡ numberOr given other ⌝ }
 {
     match given {
@@ -65,7 +65,7 @@ pub fn number_or(given: Given, other: u64) -> u64
     }
 }
 
-pub fn power_or(given: Given, other: Power) -> Power
+pub(crate) fn power_or(given: Given, other: Power) -> Power
     ensures { λ r. ⌜ r ≡ powerOr given other ⌝ }
 {
     match given {

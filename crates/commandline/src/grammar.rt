@@ -30,7 +30,7 @@ pub enum Part {
 }
 
 // How many parts there are, and the place of each in a row of them: where `Line` keeps what was said of it.
-pub const PARTS: usize = 13;
+pub(crate) const PARTS: usize = 13;
 
 pub fn place(part: Part) -> usize
     ensures { λ r. ⌜ PlaceOf part r ⌝ }
@@ -69,7 +69,7 @@ pub enum Plain {
 }
 
 // The plain words of a command.
-pub fn plain_of(command: Command) -> Plain
+pub(crate) fn plain_of(command: Command) -> Plain
     ensures { λ r. ⌜ r ≡ plainOf command ⌝ }
 {
     match command {
@@ -82,7 +82,7 @@ pub fn plain_of(command: Command) -> Plain
 }
 
 // The options of a command.
-pub fn allows(command: Command, part: Part) -> bool
+pub(crate) fn allows(command: Command, part: Part) -> bool
     ensures { λ r. ⌜ r ≡ allows command part ⌝ }
 {
     match command {
@@ -126,7 +126,7 @@ pub enum Kind {
 }
 
 // Which value a plain word is, and which comes after an option.
-pub fn kind_of(part: Part) -> Kind
+pub(crate) fn kind_of(part: Part) -> Kind
     ensures { λ r. ⌜ r ≡ kindOf part ⌝ }
 {
     match part {
@@ -146,7 +146,7 @@ pub fn kind_of(part: Part) -> Kind
     }
 }
 
-pub fn is_alone(kind: Kind) -> bool
+pub(crate) fn is_alone(kind: Kind) -> bool
     ensures { λ r. ⌜ r ≡ isAlone kind ⌝ }
 {
     match kind {
@@ -164,7 +164,7 @@ pub enum NamedCommand {
     Unknown,
 }
 
-pub fn command_named(word: &[u8]) -> NamedCommand
+pub(crate) fn command_named(word: &[u8]) -> NamedCommand
     ensures { λ r. ⌜ r ≡ commandNamed (now (word .entry)) ⌝ }
 {
     match number_of(
@@ -185,7 +185,7 @@ pub enum NamedOption {
     Unknown,
 }
 
-pub fn option_named(word: &[u8]) -> NamedOption
+pub(crate) fn option_named(word: &[u8]) -> NamedOption
     ensures { λ r. ⌜ r ≡ optionNamed (now (word .entry)) ⌝ }
 {
     match number_of(
@@ -211,7 +211,7 @@ pub enum NamedPower {
     Unknown,
 }
 
-pub fn power_named(word: &[u8]) -> NamedPower
+pub(crate) fn power_named(word: &[u8]) -> NamedPower
     ensures { λ r. ⌜ r ≡ powerNamed (now (word .entry)) ⌝ }
 {
     match number_of(b"dmg\ncgb\ncgb-dmg\nzero", word) {

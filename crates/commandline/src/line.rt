@@ -104,7 +104,7 @@ impl Line {
         power_or(self.given(part), other)
     }
 
-    pub fn with_stage(self, stage: Stage) -> Self
+    pub(crate) fn with_stage(self, stage: Stage) -> Self
         ensures { λ r. ⌜ r ≡ withStage self stage ⌝ }
     {
         let cells = self.cells;

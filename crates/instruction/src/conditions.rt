@@ -32,7 +32,7 @@ pub fn is_unconditional(cond: Condition) -> bool
     }
 }
 
-pub fn condition_of(n: u8) -> Condition
+pub(crate) fn condition_of(n: u8) -> Condition
     ensures { λ r. ⌜ r ≡ conditionAt n ⌝ }
 {
     match n {

@@ -1,6 +1,6 @@
 // Instructions as 000 and 001 shape them: an opcode, where its operand comes from, where its result goes; and the two tables that give one for each byte.
 pub mod conditions;
-pub mod decoding;
+mod decoding;
 mod entry_codes;
 pub mod instructions_table;
 mod numbered;

@@ -31,7 +31,7 @@ pub fn length_of(opcode: u8) -> u8
 }
 
 // JP or JR, conditional or not.
-pub fn is_jump(b: u8) -> bool
+pub(crate) fn is_jump(b: u8) -> bool
     ensures { λ r. ⌜ r ≡ isJump b ⌝ }
 {
     let shape = shape_of(b);

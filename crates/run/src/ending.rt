@@ -10,7 +10,7 @@ use sm83::Cpu;
 use sm83::MCycles;
 
 // After InfiniteLoop, Breakpoint, Stopped or a refusal.
-pub fn stops_run(outcome: Outcome) -> bool
+pub(crate) fn stops_run(outcome: Outcome) -> bool
     ensures { λ r. ⌜ r ≡ stopsRun outcome ⌝ }
 {
     match outcome {
@@ -36,7 +36,7 @@ pub fn stops_last(last: LastOutcome) -> bool
 }
 
 // Everything is left as it came, and costs nothing.
-pub fn refused(cpu: Cpu, refusal: Refusal, mem: &mut [u8]) -> Ran
+pub(crate) fn refused(cpu: Cpu, refusal: Refusal, mem: &mut [u8]) -> Ran
     ensures { λ r. ⌜ runAnswer r (now (mem .exit)) ≡ notRun refusal cpu (now (mem .entry)) ⌝ }
 {
     Ran {

@@ -6,7 +6,7 @@ ghost use Rattle.screen.specs.Shapes.{shapeOf};
 use routine::Class;
 
 // "Forbidden: the eleven of refusal 3, STOP, HALT, EI, RETI, JP HL, every CALL and RST."
-pub fn is_forbidden(class: Class) -> bool
+pub(crate) fn is_forbidden(class: Class) -> bool
     ensures { λ r. ⌜ r ≡ isForbidden class ⌝ }
 {
     match class {
@@ -24,7 +24,7 @@ pub fn is_forbidden(class: Class) -> bool
 }
 
 // "an unconditional JP, JR or RET"
-pub fn ends_routine(class: Class) -> bool
+pub(crate) fn ends_routine(class: Class) -> bool
     ensures { λ r. ⌜ r ≡ endsRoutine class ⌝ }
 {
     match class {

@@ -30,7 +30,7 @@ pub fn address(first: Addr, index: usize) -> Addr
 }
 
 // Length and class of the instruction at an address.
-pub fn shape_at(mem: &[u8], at: Addr) -> Shape
+pub(crate) fn shape_at(mem: &[u8], at: Addr) -> Shape
     requires { ⌜ length (now mem) ≡ 65536 ⌝ }
     ensures { λ r. ⌜ r ≡ shapeOf (instructionAt (now (mem .entry)) (at .0)) ⌝ }
 {

@@ -1,7 +1,7 @@
 // Text on lent slices: bytes and numbers written one after the other, forms filled in; numbers read; lines of a text found; bytes compared.
-pub mod digits;
+mod digits;
 pub mod form;
-pub mod hex;
+mod hex;
 pub mod lines;
 pub mod number;
 pub mod page;

@@ -3,7 +3,7 @@ ghost use mathlib.Core.Path.{_≡_};
 ghost use mathlib.Core.List.{_∷_, []};
 ghost use Rattle.text.specs.Page.{page, Wrote};
 
-pub fn put_byte(out: &mut [u8], at: usize, b: u8) -> usize
+pub(crate) fn put_byte(out: &mut [u8], at: usize, b: u8) -> usize
     ensures { λ r. ⌜ Wrote (page at (now (out .entry))) (b ∷ []) (page r (now (out .exit))) ⌝ }
 {
     if out.len() <= at {
