@@ -1,2 +1,2 @@
--- TODO: laws.
+-- Laws of the sums of words: what a sign extension keeps.
 pub mod Signed

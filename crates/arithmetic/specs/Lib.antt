@@ -1,3 +1,3 @@
--- TODO: what it states.
+-- The definition's results as the structs that the code returns: bytes with their flags, then words.
 pub mod Computed
 pub mod Words

@@ -1,2 +1,2 @@
--- TODO: laws.
+-- Laws of the verdict block: it reads back.
 pub mod Says

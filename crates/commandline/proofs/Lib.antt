@@ -1,3 +1,3 @@
--- TODO: laws.
-pub mod Options
+-- Laws of the words: a line number that names nothing, and the options of a command.
 pub mod Lines
+pub mod Options

@@ -1,5 +1,5 @@
--- TODO: what it states.
-pub mod Run
+-- The definition: what a step asks of memory, what each instruction does, the step in its seven points, and the run.
+pub mod Bus
 pub mod Execution
 pub mod Step
-pub mod Bus
+pub mod Run

@@ -1,2 +1,2 @@
--- TODO: laws.
+-- Laws of one whole instruction: operand, operation and destination.
 pub mod Executing

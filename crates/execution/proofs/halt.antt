@@ -1,2 +1,2 @@
--- TODO: laws.
+-- Laws of HALT.
 pub mod Halting

@@ -1,2 +1,2 @@
--- TODO: laws.
+-- Laws of jumps, calls and returns.
 pub mod Jumping

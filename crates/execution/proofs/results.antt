@@ -1,2 +1,2 @@
--- TODO: laws.
+-- Laws of the structs in which an instruction answers.
 pub mod Ending

@@ -1,2 +1,2 @@
--- TODO: laws.
+-- Laws of the operations on words, PUSH and POP.
 pub mod OnWords

@@ -1,2 +1,2 @@
--- TODO: laws.
+-- The exported functions' contracts leave one answer.
 pub mod Determined

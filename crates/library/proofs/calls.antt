@@ -1,2 +1,2 @@
--- TODO: laws.
+-- Laws of the blocks after a step or a run.
 pub mod Blocks

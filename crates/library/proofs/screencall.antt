@@ -1,2 +1,2 @@
--- TODO: laws.
+-- Laws of the marks and the block after a screen.
 pub mod Screenings

@@ -1,2 +1,2 @@
--- TODO: laws.
+-- Laws of the counts: index by index.
 pub mod Counting

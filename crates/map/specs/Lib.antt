@@ -1,4 +1,4 @@
--- TODO: what it states.
+-- What the map states: which bytes start a jump, the kind of each byte of a window, and the counts.
 pub mod Opcode
-pub mod Counts
 pub mod Kinds
+pub mod Counts

@@ -1,3 +1,3 @@
--- TODO: what it states.
-pub mod Numbers
+-- What the answers state: the interrupts by their numbers, and what each outcome of a step and of a run says.
 pub mod Interrupts
+pub mod Numbers

@@ -1,4 +1,4 @@
--- TODO: laws.
+-- Laws of records: bounds, copied parts and patches, the record at the front, and the counts.
 pub mod Patching
 pub mod Within
 pub mod Noting

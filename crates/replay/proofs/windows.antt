@@ -1,2 +1,2 @@
--- TODO: laws.
+-- Laws of a record of a window.
 pub mod Windowed

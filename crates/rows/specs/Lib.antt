@@ -1,3 +1,3 @@
--- TODO: what it states.
+-- What a row of the document says, and the rows.
 pub mod Claim
 pub mod Rows

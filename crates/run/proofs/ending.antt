@@ -1,2 +1,2 @@
--- TODO: laws.
+-- Laws of how a run ends: one answer each.
 pub mod Determined

@@ -1,4 +1,4 @@
--- TODO: laws.
-pub mod Determined
-pub mod Whole
+-- Laws of the screen in code: verdicts and their order, the parts together, and that the contract leaves one answer.
 pub mod Verdicts
+pub mod Whole
+pub mod Determined

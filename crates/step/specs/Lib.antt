@@ -1,2 +1,2 @@
--- TODO: what it states.
+-- What the stages of a step do.
 pub mod Stages

@@ -1,2 +1,2 @@
--- TODO: laws.
+-- Laws of the loop that writes a decimal number.
 pub mod Decimal

@@ -1,2 +1,2 @@
--- TODO: laws.
+-- Laws of the loop that fills a form in.
 pub mod Filled

@@ -1,2 +1,2 @@
--- TODO: laws.
+-- Laws of the loops over lines and words.
 pub mod Found

@@ -1,2 +1,2 @@
--- TODO: laws.
+-- Laws of the loop that reads a number.
 pub mod ByteRead

@@ -1,2 +1,2 @@
--- TODO: laws.
+-- Laws of writing to a page.
 pub mod Written

@@ -1,2 +1,2 @@
--- TODO: laws.
+-- Laws of slices that are the same.
 pub mod SameBytes

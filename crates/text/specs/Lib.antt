@@ -1,5 +1,4 @@
--- What the text crate states: a page and what is written to it; what a number within a bound is; slices that are the same; lines and words;
--- numbers as a person writes them; digits in hexadecimal and decimal; and forms, which are filled in with all of these.
+-- What the text crate states: a page and what is written to it, a number and its bound, slices that are the same, lines and words, numbers as a person writes them, digits, and forms that are filled in with these.
 pub mod Page
 pub mod Within
 pub mod Same

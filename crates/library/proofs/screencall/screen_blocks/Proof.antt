@@ -15,7 +15,7 @@ screened c =
     let screen = at-screen .screen .ensures in
     let verdict-block = at-write .write-verdict .ensures in
     let number = c .number .ensures in
-    verdict-written _ _ _ _ _ _ _ _ _ right-length (screen .verdict) (screen .marks) verdict-block number
+    verdict-written _ _ _ _ _ _ _ _ _ right-length screen verdict-block number
 
 pub screen-blocks-spec : {M : Type 1} → statement M
 screen-blocks-spec =
