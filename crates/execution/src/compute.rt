@@ -64,7 +64,7 @@ use instruction::Opcode;
 use sm83::Addr;
 use sm83::Cpu;
 
-// For an opcode that is not executed here: no call of this is ever reached.
+// For PREFIX, which is never executed: no call of this is ever reached.
 fn never_executed(cpu: Cpu, port: Port) -> Worked
     requires { ⌜ ⊥ ⌝ }
     ensures { λ r. ⌜ ⊥ ⌝ }
@@ -72,7 +72,7 @@ fn never_executed(cpu: Cpu, port: Port) -> Worked
     normal(cpu, port, 0)
 }
 
-// The match in the order of the Rust. PREFIX is never executed: the fetch takes the opcode behind it.
+// The match in the order of the Rust. The fetch takes the opcode behind PREFIX.
 pub fn compute(cpu: Cpu, port: Port, opcode: Opcode, src: u16, at: Addr, mem: &mut [u8]) -> Worked
     requires { ⌜ Given (now mem) (T (executable opcode)) ⌝ }
     ensures { λ r. ⌜ Runs (compute opcode (at .0) src) cpu port (now (mem .entry)) (madeBy r) (r .cpu) (r .port) (now (mem .exit)) ⌝ }
