@@ -46,11 +46,10 @@ loop-again c =
     let args = turn .before .before .before .before .args in
     let r = refusalOf (args .test) in
     let test = passes (args .test) (args .mem .now) (isMarked (args .marks .now) (args .first .0)) (args .first .0 + length (args .marks .now)) in
-    let onward =
-    ⊎-elim
-    (λ w. passing r test (args .first .0) (args .marks .now) (at .i) (turn .loop-test .taken) _ (w .1 .ensures) _ (w .2 .ensures) (w .3 .left))
-    (λ w. unmarked r test (args .first .0) (args .marks .now) (at .i) (turn .loop-test .taken) (w .left))
-    (c .if1 .came) in
+    let first = args .first .0 in
+    let marks = args .marks .now in
+    let more = turn .loop-test .taken in
+    let onward = ⊎-elim (λ w. passing r test first marks (at .i) more _ (w .1 .ensures) _ (w .2 .ensures) (w .3 .left)) (λ w. unmarked r test first marks (at .i) more (w .left)) (c .if1 .came) in
     (omega arith, at .inv .1 ∙ onward)
 
 returns-2 : tie.Need-returns-2 Inv-loop μ-loop
