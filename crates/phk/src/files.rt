@@ -1,22 +1,80 @@
 // The image is read, and memory is written to a new file that is renamed into place.
+ghost use mathlib.Core.Path.{_≡_};
+ghost use Prim.Native.Nat.{_-_};
+ghost use Rattle.phk.specs.Images.{imageOf, isLoaded};
 use crate::mistakes;
 use crate::page::within;
 use commandline::grammar::Part;
 use commandline::line::Line;
 use text::page::put;
 
-fn length_of(n: usize) -> u64 {
+fn length_of(n: usize) -> u64
+    ensures { λ r. ⌜ r ≡ n ⌝ }
+{
     n as u64
 }
 
-// -1 a read failed, 0 the file ends here, 1 it goes on.
-fn goes_on(fd: i32) -> i32 {
-    let mut one = [0u8; 1];
-    let got = libc::read(fd, &mut one);
-    if got < 0 {
-        return -1;
+// How many bytes there are from an address on.
+fn room_from(from: u16) -> usize
+    ensures { λ r. ⌜ r ≡ 65536 - from ⌝ }
+{
+    65536 - (from as usize)
+}
+
+// What was read of an image.
+enum Image {
+    Unreadable,
+    TooLong,
+    TooShort,
+    Part,
+    Whole,
+}
+
+// After n bytes a read behind the last address failed, or found more. Without --at the image is the whole memory.
+fn image_of(failed: bool, more: bool, given: bool, n: usize) -> Image
+    ensures { λ r. ⌜ r ≡ imageOf failed more given n ⌝ }
+{
+    if failed {
+        return Image::Unreadable;
     }
-    if got == 0 { 0 } else { 1 }
+    if more {
+        return Image::TooLong;
+    }
+    if given {
+        return Image::Part;
+    }
+    let short = n < 65536;
+    if short {
+        return Image::TooShort;
+    }
+    Image::Whole
+}
+
+fn is_loaded(image: Image) -> bool
+    ensures { λ r. ⌜ r ≡ isLoaded image ⌝ }
+{
+    match image {
+        Image::Unreadable => false,
+        Image::TooLong => false,
+        Image::TooShort => false,
+        Image::Part => true,
+        Image::Whole => true,
+    }
+}
+
+fn tell_image(image: Image, path: &[u8], n: usize, from: u16) {
+    match image {
+        Image::Unreadable => mistakes::unreadable(path),
+        Image::TooLong => mistakes::too_long(path, length_of(room_from(from))),
+        Image::TooShort => mistakes::too_short(path, length_of(n)),
+        Image::Part => mistakes::part(path, length_of(n), from),
+        Image::Whole => {}
+    }
+}
+
+fn read_on(fd: i32) -> isize {
+    let mut one = [0u8; 1];
+    libc::read(fd, &mut one)
 }
 
 fn read_part(fd: i32, mem: &mut [u8], from: usize) -> usize {
@@ -27,26 +85,11 @@ fn read_part(fd: i32, mem: &mut [u8], from: usize) -> usize {
 }
 
 fn load_from(fd: i32, path: &[u8], mem: &mut [u8], given: bool, from: u16) -> bool {
-    let room = 65536 - (from as usize);
     let n = read_part(fd, mem, from as usize);
-    let more = goes_on(fd);
-    if more < 0 {
-        mistakes::unreadable(path);
-        return false;
-    }
-    if 0 < more {
-        mistakes::too_long(path, length_of(room));
-        return false;
-    }
-    if given {
-        mistakes::part(path, length_of(n), from);
-        return true;
-    }
-    if n < 65536 {
-        mistakes::too_short(path, length_of(n));
-        return false;
-    }
-    true
+    let got = read_on(fd);
+    let image = image_of(got < 0, 0 < got, given, n);
+    tell_image(image, path, n, from);
+    is_loaded(image)
 }
 
 fn load_named(path: &[u8], mem: &mut [u8], given: bool, from: u16) -> bool {
@@ -60,7 +103,6 @@ fn load_named(path: &[u8], mem: &mut [u8], given: bool, from: u16) -> bool {
     done
 }
 
-// Without --at the image is the whole memory.
 pub fn load(line: Line, mem: &mut [u8]) -> bool {
     let mut path = io::buffer();
     let n = os::arg(line.word(Part::Image, 0), &mut path);
@@ -70,11 +112,6 @@ pub fn load(line: Line, mem: &mut [u8]) -> bool {
         line.has(Part::At),
         line.address(Part::At, 0),
     )
-}
-
-fn cannot_write(path: &[u8]) -> bool {
-    mistakes::unwritable(path);
-    false
 }
 
 // All bytes, to the disk.
@@ -103,20 +140,21 @@ fn tell(tells: bool, path: &[u8]) {
 fn save_as(new: &[u8], path: &[u8], mem: &[u8], tells: bool) -> bool {
     let fd = os::create(new);
     if fd < 0 {
-        return cannot_write(path);
+        mistakes::unwritable(path);
+        return false;
     }
     tell(tells, new);
     let filled = fill(fd, mem);
     if !filled {
-        let said = cannot_write(path);
+        mistakes::unwritable(path);
         os::unlink(new);
-        return said;
+        return false;
     }
     let renamed = os::rename(new, path);
     if renamed < 0 {
-        let said = cannot_write(path);
+        mistakes::unwritable(path);
         os::unlink(new);
-        return said;
+        return false;
     }
     true
 }

@@ -1,5 +1,9 @@
-// The field tool: phk screen, run, step, version and help. What it says is in `saying` and `sentences`, the files that it reads and writes in `files`,
-// the screen in `tool`, what the command line means in `commandline`; here the line is read and obeyed.
+// The field tool: phk screen, run, step, version and help. What it says is in `sentences`, `mistakes` and `help`, the files that it reads and
+// writes in `files`, the screen in `screening`, the run in `machine`, what the command line means in `commandline`; here the line is read and obeyed.
+ghost use mathlib.Core.Path.{_≡_};
+ghost use Rattle.commandline.specs.Finish.{finished};
+ghost use Rattle.phk.specs.Status.{done, badUsage, Obeyed, Answered};
+
 mod ends;
 mod far;
 mod files;
@@ -61,22 +65,30 @@ fn step(line: Line, env: Env) -> u8 {
     said::REFUSED
 }
 
-fn show_help(command: Command) -> u8 {
+fn show_help(command: Command) -> u8
+    ensures { λ r. ⌜ r ≡ done ⌝ }
+{
     help::help(command);
     said::DONE
 }
 
-fn version() -> u8 {
+fn version() -> u8
+    ensures { λ r. ⌜ r ≡ done ⌝ }
+{
     help::version();
     said::DONE
 }
 
-fn mistaken(mistake: Mistake) -> u8 {
+fn mistaken(mistake: Mistake) -> u8
+    ensures { λ r. ⌜ r ≡ badUsage ⌝ }
+{
     mistakes::mistake(mistake);
     said::BAD_USAGE
 }
 
-fn obey(command: Command, line: Line, env: Env) -> u8 {
+fn obey(command: Command, line: Line, env: Env) -> u8
+    ensures { λ r. ⌜ Obeyed command r ⌝ }
+{
     match command {
         Command::Screen => screen(line, env),
         Command::Run => run(line, env),
@@ -86,7 +98,9 @@ fn obey(command: Command, line: Line, env: Env) -> u8 {
     }
 }
 
-fn answer(line: Line, env: Env) -> u8 {
+fn answer(line: Line, env: Env) -> u8
+    ensures { λ r. ⌜ Answered (finished line) r ⌝ }
+{
     match finish(line) {
         Asked::Help(command) => show_help(command),
         Asked::Obey(command) => obey(command, line, env),

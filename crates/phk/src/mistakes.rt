@@ -1,4 +1,6 @@
 // What the tool says of files that it cannot read or write and of a bad command line: each sentence once, as in `sentences`.
+ghost use mathlib.Core.Path.{_≡_};
+ghost use Rattle.sm83.specs.Basics.{bit};
 use crate::page::fail;
 use crate::page::print;
 use commandline::grammar::Part;
@@ -17,7 +19,9 @@ pub fn unwritable(path: &[u8]) {
     );
 }
 
-fn first_or_second(second: bool) -> usize {
+fn first_or_second(second: bool) -> usize
+    ensures { λ r. ⌜ r ≡ bit second ⌝ }
+{
     if second { 1 } else { 0 }
 }
 

@@ -1,4 +1,6 @@
 // What the launcher told the program, and what the program tells it: its last word, on descriptor 3.
+ghost use mathlib.Core.Path.{_≡_};
+ghost use Rattle.phk.specs.Status.{statusOf, stands, envIn};
 use crate::page::print;
 
 pub const DONE: u8 = 0;
@@ -16,11 +18,23 @@ pub struct Env {
     pub tells: bool,
 }
 
-fn stands(word: &[u8], i: usize, b: u8) -> bool {
+// The status that a refusal's number stands for; 0 is none.
+pub fn status_of(refusal: u8) -> u8
+    ensures { λ r. ⌜ r ≡ statusOf refusal ⌝ }
+{
+    let none = refusal == 0;
+    if none { DONE } else { REFUSED }
+}
+
+fn stands(word: &[u8], i: usize, b: u8) -> bool
+    ensures { λ r. ⌜ r ≡ stands (now (word .entry)) i b ⌝ }
+{
     if i < word.len() { word[i] == b } else { false }
 }
 
-fn env_in(word: &[u8]) -> Env {
+fn env_in(word: &[u8]) -> Env
+    ensures { λ r. ⌜ r ≡ envIn (now (word .entry)) ⌝ }
+{
     if stands(word, 0, 64) {
         return Env {
             first: 2,

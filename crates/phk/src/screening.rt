@@ -1,7 +1,10 @@
 // phk screen: the verdict, the marks and the map.
+ghost use mathlib.Core.Path.{_≡_};
+ghost use Rattle.routine.specs.Screen.{screen};
+ghost use Rattle.phk.specs.Window.{verdictOn, statusOfVerdict, isMark, behind, nextColumn};
 use crate::page::within;
-use crate::said;
 use crate::said::Env;
+use crate::said::status_of;
 use crate::sentences::after;
 use commandline::grammar::Part;
 use commandline::line::Line;
@@ -11,7 +14,9 @@ use routine::Verdict;
 use screen::screen;
 use sm83::Addr;
 
-fn mark(marks: &[u8], i: usize) -> bool {
+fn mark(marks: &[u8], i: usize) -> bool
+    ensures { λ r. ⌜ r ≡ isMark (now (marks .entry)) i ⌝ }
+{
     if i < marks.len() {
         marks[i] == 1
     } else {
@@ -19,12 +24,15 @@ fn mark(marks: &[u8], i: usize) -> bool {
     }
 }
 
-fn index_of(a: u16, first: u16) -> usize {
+// How far an address is behind another. Addresses wrap.
+fn behind(a: u16, first: u16) -> usize
+    ensures { λ r. ⌜ r ≡ behind a first ⌝ }
+{
     std::num::wrapping_sub_u16(a, first) as usize
 }
 
 fn print_start(mem: &[u8], marks: &[u8], first: u16, a: u16) {
-    if mark(marks, index_of(a, first)) {
+    if mark(marks, behind(a, first)) {
         crate::sentences::start(mem, a);
     }
 }
@@ -45,7 +53,14 @@ fn row_end(more: bool) {
     }
 }
 
-// A cell for each byte, 32 to a row.
+// 32 to a row.
+fn next_column(column: u8) -> u8
+    ensures { λ r. ⌜ r ≡ nextColumn column ⌝ }
+{
+    (column % 32 + 1) % 32
+}
+
+// A cell for each byte.
 fn print_cells(kinds: &[u8], first: u16, colour: bool) {
     let mut a = first;
     let mut column: u8 = 0;
@@ -57,7 +72,7 @@ fn print_cells(kinds: &[u8], first: u16, colour: bool) {
         crate::sentences::cell(kinds[i], colour);
         a = after(a, 1);
         i += 1;
-        column = (column % 32 + 1) % 32;
+        column = next_column(column);
         row_end(column == 0);
     }
     row_end(column != 0);
@@ -83,16 +98,16 @@ fn print_passes(line: Line, mem: &[u8], marks: &[u8], first: u16, last: u16, len
     }
 }
 
-fn judged(
+fn print_verdict(
     line: Line,
     mem: &[u8],
-    marks: &mut [u8],
+    marks: &[u8],
     first: u16,
     last: u16,
-    length: usize,
+    verdict: Verdict,
     colour: bool,
-) -> u8 {
-    let verdict = screen(mem, Addr(first), Addr(last), marks);
+) {
+    let length = behind(last, first) + 1;
     let map = line.has(Part::Map);
     let number = verdict.number();
     match verdict {
@@ -101,29 +116,32 @@ fn judged(
             if map {
                 print_map(mem, first, length, verdict, colour);
             }
-            said::DONE
         }
-        Verdict::Refused(_) => {
-            crate::sentences::refused(number);
-            said::REFUSED
-        }
+        Verdict::Refused(_) => crate::sentences::refused(number),
         Verdict::RefusedAt(_, at) => {
             crate::sentences::refused_at(mem, number, at.0);
             if map {
                 print_map(mem, first, length, verdict, colour);
             }
-            said::REFUSED
         }
     }
 }
 
+fn judged(line: Line, mem: &[u8], marks: &mut [u8], first: u16, last: u16, colour: bool) -> u8
+    ensures { λ r. ⌜ r ≡ statusOfVerdict (screen (now (mem .entry)) first last (now (marks .entry)) .verdict) ⌝ }
+{
+    let verdict = screen(mem, Addr(first), Addr(last), marks);
+    print_verdict(line, mem, marks, first, last, verdict, colour);
+    status_of(verdict.number())
+}
+
 // The screen decides which windows it takes: it is lent a mark for each byte of any window.
-pub fn screening(line: Line, mem: &[u8], env: Env) -> u8 {
+pub fn screening(line: Line, mem: &[u8], env: Env) -> u8
+    ensures { λ r. ⌜ r ≡ statusOfVerdict (verdictOn line (now (mem .entry))) ⌝ }
+{
     let first = line.address(Part::First, 0);
     let last = line.address(Part::Last, 0);
-    let span = std::num::wrapping_sub_u16(last, first);
-    let length = (span as usize) + 1;
     let mut marks = io::large_buffer();
-    let n = within(&marks, length);
-    judged(line, mem, &mut marks[..n], first, last, length, env.colour)
+    let n = within(&marks, behind(last, first) + 1);
+    judged(line, mem, &mut marks[..n], first, last, env.colour)
 }

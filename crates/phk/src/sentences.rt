@@ -3,6 +3,7 @@
 ghost use mathlib.Core.Path.{_≡_};
 ghost use Prim.Native.Nat.{_+_, _%_};
 ghost use Rattle.definition.specs.Bus.{byteAt};
+ghost use Rattle.phk.specs.Values.{valuesOf};
 use crate::page::print;
 use crate::page::print_short;
 use map::opcode::length_of;
@@ -29,7 +30,9 @@ fn end_line() {
 }
 
 // The registers as values: AF, BC, DE, HL, SP, PC, and F for the flags.
-fn values_of(r: CpuRegisters) -> [u64; 7] {
+fn values_of(r: CpuRegisters) -> [u64; 7]
+    ensures { λ v. ⌜ v ≡ valuesOf r ⌝ }
+{
     let sp = r.sp;
     let pc = r.pc;
     [

@@ -1,4 +1,4 @@
--- Laws of records: bounds, copied parts and patches, the record at the front, and the counts.
+-- Laws over plain variables that the proofs of the functions share.
 pub mod Patching
 pub mod Within
 pub mod Noting

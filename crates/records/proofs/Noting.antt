@@ -12,43 +12,43 @@ use Rattle.outcome.specs.declared.interrupt.NextInterrupt.{NextInterrupt}
 use Rattle.outcome.specs.Interrupts.{isPending}
 use Rattle.blocks.specs.Bytes.{wordAt}
 use Rattle.records.specs.Bytes.{part}
-use Rattle.records.specs.Record.{kindOf, memoryLength, listed, memoryFrom}
-use Rattle.records.specs.Notes.{counted, fetches, opcodeOf, prefixNoted, fetchNoted, opcodeNoted, runNoted, noted}
+use Rattle.records.specs.Record.{stateAt, afterAt, answerAt, bytesAt, verdictAt, marksAt, kindOf, memoryLength, listed, changesAt, memoryFrom}
+use Rattle.records.specs.Notes.{kinds, halts, outcomes, verdicts, places, pcAt, haltAt, counted, fetches, opcodeOf, prefixNoted, fetchNoted, opcodeNoted, runNoted, noted}
 
 -- the opcode that is fetched
 module _ (s m m' : List ℕ) {peek : NextInterrupt} {w f : Bool} (peeked : peek ≡ pending m) (kept : m' ≡ m) (pends : w ≡ isPending peek) (told : f ≡ fetches s w) where
   decided : {t : Bool} → f ≡ t → fetches s (isPending (pending m)) ≡ t
   decided h = sym (told ∙ ap (fetches s) (pends ∙ ap isPending peeked)) ∙ h
 
-  pub not-fetched : f ≡ false → 1536 ≡ opcodeOf s m
+  pub not-fetched : f ≡ false → places ≡ opcodeOf s m
   unfolding opcodeOf
   not-fetched h = simp (decided h)
 
-  module _ {pc : ℕ} (so : f ≡ true) (at : pc ≡ wordAt s 10) where
-    here : byteAt m' pc ≡ byteAt m (wordAt s 10)
+  module _ {pc : ℕ} (so : f ≡ true) (at : pc ≡ wordAt s pcAt) where
+    here : byteAt m' pc ≡ byteAt m (wordAt s pcAt)
     here = ap₂ (λ (l : List ℕ) (k : ℕ). byteAt l k) kept at
 
     pub fetched : {w : ℕ} → (byteAt m' pc ≡ 0xcb → ⊥) → w ≡ byteAt m' pc → w ≡ opcodeOf s m
     unfolding opcodeOf
-    fetched h e = simp (decided so, ne-eqb (byteAt m (wordAt s 10)) 0xcb (λ x. h (here ∙ x))) (e ∙ here)
+    fetched h e = simp (decided so, ne-eqb (byteAt m (wordAt s pcAt)) 0xcb (λ x. h (here ∙ x))) (e ∙ here)
 
-    pub fetched-under-bug : {w : ℕ} → byteAt m' pc ≡ 0xcb → byteAt s 14 ≡ 3 → w ≡ byteAt m' pc → 256 + w ≡ opcodeOf s m
+    pub fetched-under-bug : {w : ℕ} → byteAt m' pc ≡ 0xcb → byteAt s haltAt ≡ 3 → w ≡ byteAt m' pc → 256 + w ≡ opcodeOf s m
     unfolding opcodeOf
     fetched-under-bug h bug e =
-        simp (decided so, eq-eqb (byteAt m (wordAt s 10)) 0xcb (sym here ∙ h), eq-eqb (byteAt s 14) 3 bug)
+        simp (decided so, eq-eqb (byteAt m (wordAt s pcAt)) 0xcb (sym here ∙ h), eq-eqb (byteAt s haltAt) 3 bug)
         (ap (λ (k : ℕ). 256 + k) (e ∙ here))
 
-    pub fetched-after : {w a : ℕ} → byteAt m' pc ≡ 0xcb → (byteAt s 14 ≡ 3 → ⊥) → a ≡ (pc + 1) % 65536 → w ≡ byteAt m' a → 256 + w ≡ opcodeOf s m
+    pub fetched-after : {w a : ℕ} → byteAt m' pc ≡ 0xcb → (byteAt s haltAt ≡ 3 → ⊥) → a ≡ (pc + 1) % 65536 → w ≡ byteAt m' a → 256 + w ≡ opcodeOf s m
     unfolding opcodeOf
     fetched-after h bug after e =
-        simp (decided so, eq-eqb (byteAt m (wordAt s 10)) 0xcb (sym here ∙ h), ne-eqb (byteAt s 14) 3 bug)
+        simp (decided so, eq-eqb (byteAt m (wordAt s pcAt)) 0xcb (sym here ∙ h), ne-eqb (byteAt s haltAt) 3 bug)
         (ap (λ (k : ℕ). 256 + k) (e ∙ ap₂ (λ (l : List ℕ) (k : ℕ). byteAt l k) kept (after ∙ ap (λ (k : ℕ). (k + 1) % 65536) at)))
 
 module _ (r : List ℕ) where
-  pub fetch-noted : (size : ℕ) (counts : List ℕ) {place : ℕ} {m counts' counts'' : List ℕ} → m ≡ memoryFrom r 87 size → place ≡ opcodeOf (part r 15 39) m → counts' ≡ counted place counts → counts'' ≡ prefixNoted place counts' → counts'' ≡ fetchNoted r size counts
+  pub fetch-noted : (size : ℕ) (counts : List ℕ) {place : ℕ} {m counts' counts'' : List ℕ} → m ≡ memoryFrom r bytesAt size → place ≡ opcodeOf (part r stateAt afterAt) m → counts' ≡ counted place counts → counts'' ≡ prefixNoted place counts' → counts'' ≡ fetchNoted r size counts
   fetch-noted size counts {place = place} laid told once again =
       again ∙ ap (λ (l : List ℕ). prefixNoted place l) once
-      ∙ ap (λ (k : ℕ). prefixNoted k (counted k counts)) (told ∙ ap (λ (l : List ℕ). opcodeOf (part r 15 39) l) laid)
+      ∙ ap (λ (k : ℕ). prefixNoted k (counted k counts)) (told ∙ ap (λ (l : List ℕ). opcodeOf (part r stateAt afterAt) l) laid)
 
   module _ {n : ℕ} (sized : n ≡ memoryLength r) where
     pub on-whole : (counts : List ℕ) {size : ℕ} {counts' : List ℕ} → n ≡ 65536 → size ≡ n → counts' ≡ fetchNoted r size counts → counts' ≡ opcodeNoted r counts
@@ -58,37 +58,37 @@ module _ (r : List ℕ) where
     on-other counts other = simp (ne-eqb (memoryLength r) 65536 (λ e. other (sized ∙ e)))
 
   module _ {n : ℕ} (listing : n ≡ listed r) where
-    pub run-short : (counts : List ℕ) → length r < 87 + 3 * n → counts ≡ runNoted r counts
-    run-short counts h = let short : length r < 87 + 3 * listed r = omega arith in simp (lt-ltb (length r) (87 + 3 * listed r) short)
+    pub run-short : (counts : List ℕ) → length r < bytesAt + 3 * n → counts ≡ runNoted r counts
+    run-short counts h = let short : length r < changesAt r = omega arith in simp (lt-ltb (length r) (changesAt r) short)
 
-    module _ (c0 : List ℕ) {halt outcome : ℕ} {c1 c2 : List ℕ} (long : 87 + 3 * n ≤ length r) (halted : halt ≡ byteAt r 29) (ended : outcome ≡ byteAt r 63) (first : c1 ≡ counted (768 + halt) c0) (second : c2 ≡ counted (1024 + outcome) c1) where
-      whole : 87 + 3 * listed r ≤ length r
+    module _ (c0 : List ℕ) {halt outcome : ℕ} {c1 c2 : List ℕ} (long : bytesAt + 3 * n ≤ length r) (halted : halt ≡ byteAt r (stateAt + haltAt)) (ended : outcome ≡ byteAt r answerAt) (first : c1 ≡ counted (halts + halt) c0) (second : c2 ≡ counted (outcomes + outcome) c1) where
+      whole : changesAt r ≤ length r
       whole = omega arith
 
-      both : c2 ≡ counted (1024 + byteAt r 63) (counted (768 + byteAt r 29) c0)
+      both : c2 ≡ counted (outcomes + byteAt r answerAt) (counted (halts + byteAt r (stateAt + haltAt)) c0)
       both =
-          second ∙ ap₂ (λ (k : ℕ) (l : List ℕ). counted (1024 + k) l) ended (first ∙ ap (λ (k : ℕ). counted (768 + k) c0) halted)
+          second ∙ ap₂ (λ (k : ℕ) (l : List ℕ). counted (outcomes + k) l) ended (first ∙ ap (λ (k : ℕ). counted (halts + k) c0) halted)
 
       pub step-noted : {c3 : List ℕ} → kindOf r ≡ 0 → c3 ≡ opcodeNoted r c2 → c3 ≡ runNoted r c0
-      step-noted kind e = simp (le-ltb (length r) (87 + 3 * listed r) whole, eq-eqb (kindOf r) 0 kind) (e ∙ ap (λ (l : List ℕ). opcodeNoted r l) both)
+      step-noted kind e = simp (le-ltb (length r) (changesAt r) whole, eq-eqb (kindOf r) 0 kind) (e ∙ ap (λ (l : List ℕ). opcodeNoted r l) both)
 
       pub run-noted : (kindOf r ≡ 0 → ⊥) → c2 ≡ runNoted r c0
-      run-noted kind = simp (le-ltb (length r) (87 + 3 * listed r) whole, ne-eqb (kindOf r) 0 kind) both
+      run-noted kind = simp (le-ltb (length r) (changesAt r) whole, ne-eqb (kindOf r) 0 kind) both
 
-  pub too-short : (counts : List ℕ) → length r < 19 → counts ≡ noted r counts
+  pub too-short : (counts : List ℕ) → length r < marksAt → counts ≡ noted r counts
   unfolding noted
-  too-short counts h = simp (lt-ltb (length r) 19 h)
+  too-short counts h = simp (lt-ltb (length r) marksAt h)
 
-  module _ (c0 : List ℕ) {kind : ℕ} {c1 : List ℕ} (long : 19 ≤ length r) (kinded : kind ≡ kindOf r) (first : c1 ≡ counted (512 + kind) c0) where
-    once : c1 ≡ counted (512 + kindOf r) c0
-    once = first ∙ ap (λ (k : ℕ). counted (512 + k) c0) kinded
+  module _ (c0 : List ℕ) {kind : ℕ} {c1 : List ℕ} (long : marksAt ≤ length r) (kinded : kind ≡ kindOf r) (first : c1 ≡ counted (kinds + kind) c0) where
+    once : c1 ≡ counted (kinds + kindOf r) c0
+    once = first ∙ ap (λ (k : ℕ). counted (kinds + k) c0) kinded
 
-    pub window-noted : {v : ℕ} {c2 : List ℕ} → kindOf r ≡ 2 → v ≡ byteAt r 15 → c2 ≡ counted (1280 + v) c1 → c2 ≡ noted r c0
+    pub window-noted : {v : ℕ} {c2 : List ℕ} → kindOf r ≡ 2 → v ≡ byteAt r verdictAt → c2 ≡ counted (verdicts + v) c1 → c2 ≡ noted r c0
     unfolding noted
     window-noted two said e =
-        simp (le-ltb (length r) 19 long, eq-eqb (kindOf r) 2 two)
-        (e ∙ ap₂ (λ (k : ℕ) (l : List ℕ). counted (1280 + k) l) said once)
+        simp (le-ltb (length r) marksAt long, eq-eqb (kindOf r) 2 two)
+        (e ∙ ap₂ (λ (k : ℕ) (l : List ℕ). counted (verdicts + k) l) said once)
 
     pub other-noted : {c2 : List ℕ} → (kindOf r ≡ 2 → ⊥) → c2 ≡ runNoted r c1 → c2 ≡ noted r c0
     unfolding noted
-    other-noted two e = simp (le-ltb (length r) 19 long, ne-eqb (kindOf r) 2 two) (e ∙ ap (λ (l : List ℕ). runNoted r l) once)
+    other-noted two e = simp (le-ltb (length r) marksAt long, ne-eqb (kindOf r) 2 two) (e ∙ ap (λ (l : List ℕ). runNoted r l) once)

@@ -1,5 +1,6 @@
--- What a record of a sample is: its bytes, its layout, where it stands in the sample, and what it adds to the counts.
+-- What a record of the stored sample says, and what of it is counted.
 pub mod Notes
 pub mod Front
 pub mod Record
 pub mod Bytes
+pub mod Lent

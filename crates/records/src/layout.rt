@@ -1,42 +1,77 @@
-// The numbers that stand in a record. Each asks for a record of 15 bytes or more.
+// Where the parts of a record stand, and the numbers and the memory that it tells.
 ghost use mathlib.Core.Path.{_≡_};
-ghost use Prim.Native.Nat.{_+_, _*_, _≤_};
+ghost use Prim.Native.Nat.{_≤_};
 ghost use lib.ListN.{length};
-ghost use Rattle.records.specs.Record.{memoryLength, listed, changed, memoryFrom};
+ghost use Rattle.records.specs.Record.{headSize, memoryLength, listed, changed, ListedAt, memoryFrom};
+ghost use Rattle.records.specs.Lent.{UpTo};
+use crate::slices::clear;
 use crate::slices::patch;
 use blocks::bytes::word_at;
-use screen::window::clear;
 
+// The head, of every record.
+pub const KIND: usize = 2;
+
+pub const NAME_LENGTH: usize = 3;
+
+pub const MEMORY_LENGTH: usize = 4;
+
+pub const LISTED: usize = 7;
+
+pub const CHANGED: usize = 9;
+
+pub const BUDGET: usize = 11;
+
+pub const FIRST: usize = 11;
+
+pub const LAST: usize = 13;
+
+pub const HEAD_SIZE: usize = 15;
+
+// A step or a run.
+pub const STATE: usize = 15;
+
+pub const AFTER: usize = 39;
+
+pub const ANSWER: usize = 63;
+
+pub const BYTES: usize = 87;
+
+// A window.
+pub const VERDICT: usize = 15;
+
+pub const MARKS: usize = 19;
+
+// Each of these asks for a record that has a head.
 pub fn memory_length(item: &[u8]) -> usize
-    requires { ⌜ 15 ≤ length (now item) ⌝ }
+    requires { ⌜ headSize ≤ length (now item) ⌝ }
     ensures { λ r. ⌜ r ≡ memoryLength (now (item .entry)) ⌝ }
 {
-    word_at(item, 4) as usize + 65536 * wide(item[6])
+    word_at(item, MEMORY_LENGTH) as usize + 65536 * wide(item[MEMORY_LENGTH + 2])
 }
 
 pub fn wide(byte: u8) -> usize
-    ensures { λ r. ⌜ (r ≡ byte) × (r ≤ 255) ⌝ }
+    ensures { λ r. ⌜ UpTo 255 byte r ⌝ }
 {
     byte as usize
 }
 
 pub fn listed(item: &[u8]) -> usize
-    requires { ⌜ 15 ≤ length (now item) ⌝ }
-    ensures { λ r. ⌜ (r ≡ listed (now (item .entry))) × (r ≤ 65535) ⌝ }
+    requires { ⌜ headSize ≤ length (now item) ⌝ }
+    ensures { λ r. ⌜ UpTo 65535 (listed (now (item .entry))) r ⌝ }
 {
-    word_at(item, 7) as usize
+    word_at(item, LISTED) as usize
 }
 
 pub fn changed(item: &[u8]) -> usize
-    requires { ⌜ 15 ≤ length (now item) ⌝ }
-    ensures { λ r. ⌜ (r ≡ changed (now (item .entry))) × (r ≤ 65535) ⌝ }
+    requires { ⌜ headSize ≤ length (now item) ⌝ }
+    ensures { λ r. ⌜ UpTo 65535 (changed (now (item .entry))) r ⌝ }
 {
-    word_at(item, 9) as usize
+    word_at(item, CHANGED) as usize
 }
 
 // Memory before: all 0 but for the listed bytes.
 pub fn lay(item: &[u8], at: usize, mem: &mut [u8])
-    requires { ⌜ (15 ≤ length (now item)) × (at + 3 * listed (now item) ≤ length (now item)) ⌝ }
+    requires { ⌜ ListedAt (now item) at ⌝ }
     ensures { λ _. ⌜ now (mem .exit) ≡ memoryFrom (now (item .entry)) at (length (now (mem .entry))) ⌝ }
 {
     let n = listed(item);

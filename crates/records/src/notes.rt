@@ -1,9 +1,17 @@
 // What a sample covers: how often each kind of record, opcode, halt mode, outcome and verdict was met.
 ghost use mathlib.Core.Path.{_≡_};
-ghost use Prim.Native.Nat.{_+_, _*_, _≤_};
+ghost use Prim.Native.Nat.{_≤_};
 ghost use lib.ListN.{length};
-ghost use Rattle.records.specs.Record.{listed};
+ghost use Rattle.records.specs.Record.{marksAt, changesAt};
+ghost use Rattle.records.specs.Lent.{Lent, LentWhole};
 ghost use Rattle.records.specs.Notes.{counted, fetches, opcodeOf, prefixNoted, fetchNoted, opcodeNoted, runNoted, noted};
+use crate::layout::AFTER;
+use crate::layout::ANSWER;
+use crate::layout::BYTES;
+use crate::layout::KIND;
+use crate::layout::MARKS;
+use crate::layout::STATE;
+use crate::layout::VERDICT;
 use crate::layout::lay;
 use crate::layout::listed;
 use crate::layout::memory_length;
@@ -23,6 +31,20 @@ pub const VERDICTS: usize = 1280;
 
 pub const PLACES: usize = 1536;
 
+// Where the parts of a state block stand.
+const PC: usize = 10;
+
+const IME: usize = 12;
+
+const HALT: usize = 14;
+
+const STOPPED: usize = 15;
+
+const HDMA: usize = 16;
+
+// The halt mode of the state in a record.
+const HALT_BEFORE: usize = STATE + HALT;
+
 fn count(counts: &mut [u32], place: usize)
     ensures { λ _. ⌜ now (counts .exit) ≡ counted place (now (counts .entry)) ⌝ }
 {
@@ -36,25 +58,25 @@ fn fetches(state: &[u8], waiting: bool) -> bool
     requires { ⌜ 24 ≤ length (now state) ⌝ }
     ensures { λ r. ⌜ r ≡ fetches (now (state .entry)) waiting ⌝ }
 {
-    let ime = state[12] == 1;
-    let halted = (state[14] == 1) | (state[14] == 2);
-    let still = (state[15] == 1) | (state[16] == 1);
+    let ime = state[IME] == 1;
+    let halted = (state[HALT] == 1) | (state[HALT] == 2);
+    let still = (state[STOPPED] == 1) | (state[HDMA] == 1);
     !still & ((!halted | waiting) & !(ime & waiting))
 }
 
 // The opcode that a step fetches, after CB from 256 on; PLACES if it fetches none.
 fn opcode(state: &[u8], mem: &mut [u8]) -> usize
-    requires { ⌜ (24 ≤ length (now state)) × (length (now mem) ≡ 65536) ⌝ }
+    requires { ⌜ LentWhole 24 (now state) (now mem) ⌝ }
     ensures { λ r. ⌜ r ≡ opcodeOf (now (state .entry)) (now (mem .entry)) ⌝ }
 {
     let next = lowest_pending(mem);
     let waiting = next.is_pending();
     let fetched = fetches(state, waiting);
     if fetched {
-        let pc = word_at(state, 10);
+        let pc = word_at(state, PC);
         let first = mem[pc as usize];
         if first == 0xcb {
-            if state[14] == 3 {
+            if state[HALT] == 3 {
                 return 256 + wide(first);
             }
             let second = Addr(pc).wrapping_add(1);
@@ -75,17 +97,17 @@ fn note_prefix(place: usize, counts: &mut [u32])
 }
 
 fn note_fetch(item: &[u8], mem: &mut [u8], counts: &mut [u32])
-    requires { ⌜ (87 + 3 * listed (now item) ≤ length (now item)) × (length (now mem) ≡ 65536) ⌝ }
+    requires { ⌜ LentWhole (changesAt (now item)) (now item) (now mem) ⌝ }
     ensures { λ _. ⌜ now (counts .exit) ≡ fetchNoted (now (item .entry)) (length (now (mem .entry))) (now (counts .entry)) ⌝ }
 {
-    lay(item, 87, mem);
-    let place = opcode(&item[15..39], mem);
+    lay(item, BYTES, mem);
+    let place = opcode(&item[STATE..AFTER], mem);
     count(counts, place);
     note_prefix(place, counts);
 }
 
 fn note_opcode(item: &[u8], mem: &mut [u8], counts: &mut [u32])
-    requires { ⌜ (87 + 3 * listed (now item) ≤ length (now item)) × (65536 ≤ length (now mem)) ⌝ }
+    requires { ⌜ Lent (changesAt (now item)) (now item) 65536 (now mem) ⌝ }
     ensures { λ _. ⌜ now (counts .exit) ≡ opcodeNoted (now (item .entry)) (now (counts .entry)) ⌝ }
 {
     let n = memory_length(item);
@@ -95,15 +117,15 @@ fn note_opcode(item: &[u8], mem: &mut [u8], counts: &mut [u32])
 }
 
 fn note_run(item: &[u8], mem: &mut [u8], counts: &mut [u32])
-    requires { ⌜ (19 ≤ length (now item)) × (65536 ≤ length (now mem)) ⌝ }
+    requires { ⌜ Lent marksAt (now item) 65536 (now mem) ⌝ }
     ensures { λ _. ⌜ now (counts .exit) ≡ runNoted (now (item .entry)) (now (counts .entry)) ⌝ }
 {
-    if item.len() < 87 + 3 * listed(item) {
+    if item.len() < BYTES + 3 * listed(item) {
         return;
     }
-    count(counts, HALTS + wide(item[29]));
-    count(counts, OUTCOMES + wide(item[63]));
-    if item[2] == 0 {
+    count(counts, HALTS + wide(item[HALT_BEFORE]));
+    count(counts, OUTCOMES + wide(item[ANSWER]));
+    if item[KIND] == 0 {
         note_opcode(item, mem, counts);
     }
 }
@@ -111,13 +133,13 @@ fn note_run(item: &[u8], mem: &mut [u8], counts: &mut [u32])
 pub fn note(item: &[u8], mem: &mut [u8; 131072], counts: &mut [u32; 1536])
     ensures { λ _. ⌜ now (counts .exit) ≡ noted (now (item .entry)) (now (counts .entry)) ⌝ }
 {
-    if item.len() < 19 {
+    if item.len() < MARKS {
         return;
     }
-    let kind = item[2];
+    let kind = item[KIND];
     count(counts, KINDS + wide(kind));
     if kind == 2 {
-        count(counts, VERDICTS + wide(item[15]));
+        count(counts, VERDICTS + wide(item[VERDICT]));
         return;
     }
     note_run(item, mem, counts);

@@ -1,9 +1,20 @@
-// Bytes put where a record's triples say.
+// Bytes cleared, and put where a record's triples say.
 ghost use mathlib.Core.Path.{_≡_};
 ghost use Prim.Native.Nat.{_+_, _*_, _≤_};
-ghost use lib.ListN.{length, set};
+ghost use lib.ListN.{length, replicate, set};
 ghost use Rattle.records.specs.Bytes.{patched};
 use blocks::bytes::word_at;
+
+pub fn clear(s: &mut [u8])
+    ensures { λ _. ⌜ now (s .exit) ≡ replicate (length (now (s .entry))) 0 ⌝ }
+{
+    let n = s.len();
+    let mut i = 0;
+    while i < n {
+        s[i] = 0;
+        i += 1;
+    }
+}
 
 // An address past the end is passed over.
 fn put(s: &mut [u8], at: usize, v: u8)

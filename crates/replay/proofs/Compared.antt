@@ -8,12 +8,12 @@ use Rattle.blocks.specs.Bytes.{wordAt}
 use Rattle.library.specs.Left.{left, runBlocks}
 use Rattle.records.specs.Bytes.{part, patched}
 use Rattle.replay.specs.AsTold.{leftAsTold}
-use Rattle.records.specs.Record.{kindOf, listed, changed, memoryFrom}
+use Rattle.records.specs.Record.{budgetAt, stateAt, afterAt, answerAt, bytesAt, kindOf, listed, changed, memoryFrom}
 use Rattle.replay.specs.Told.{budgetOf, asked, told, sameLeft}
 
-pub run-compared : (r : List ℕ) (size size' n count budget : ℕ) (state mem want want' : List ℕ) (number : ℕ) (state' mem' answer' : List ℕ) (b : Bool) → n ≡ listed r → count ≡ changed r → mem ≡ memoryFrom r 87 size → want ≡ memoryFrom r 87 size' → want' ≡ patched r (87 + 3 * n) count want → state ≡ part r 15 39 → budget ≡ wordAt r 11 → left number state' mem' answer' ≡ runBlocks (budgetOf (kindOf r) budget) state mem (replicate 24 0) → b ≡ leftAsTold r number state' mem' want' answer' → b ≡ sameLeft (asked r size) (told r size')
+pub run-compared : (r : List ℕ) (size size' n count budget : ℕ) (state mem want want' : List ℕ) (number : ℕ) (state' mem' answer' : List ℕ) (b : Bool) → n ≡ listed r → count ≡ changed r → mem ≡ memoryFrom r bytesAt size → want ≡ memoryFrom r bytesAt size' → want' ≡ patched r (bytesAt + 3 * n) count want → state ≡ part r stateAt afterAt → budget ≡ wordAt r budgetAt → left number state' mem' answer' ≡ runBlocks (budgetOf (kindOf r) budget) state mem (replicate 24 0) → b ≡ leftAsTold r number state' mem' want' answer' → b ≡ sameLeft (asked r size) (told r size')
 unfolding asked told
 run-compared r size size' n count budget state mem want want' number state' mem' answer' b listing changing laid laid' patch copy budgeted ran same-so =
     let so : left number state' mem' answer' ≡ asked r size = ran ∙ simp (copy, laid, budgeted) in
-    let told-so : left (wordAt r 63) (part r 39 63) want' (part r 63 87) ≡ told r size' = simp (patch, laid', listing, changing) in
+    let told-so : left (wordAt r answerAt) (part r afterAt answerAt) want' (part r answerAt bytesAt) ≡ told r size' = simp (patch, laid', listing, changing) in
     same-so ∙ ap₂ sameLeft so told-so

@@ -1,5 +1,6 @@
--- Laws of replaying: the tests in front of a comparison, the comparison, the count, and what agreeing means.
+-- Laws over plain variables that the proofs of the functions share, and what it means that the core agrees with a record.
 pub mod Judged
 pub mod Compared
 pub mod Differing
 pub mod Means
+pub mod Meeting

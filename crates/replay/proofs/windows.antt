@@ -1,2 +1,2 @@
--- Laws of a record of a window.
+-- The laws of a window that is screened.
 pub mod Windowed

@@ -5,7 +5,8 @@ use Prim.Native.Nat.{ℕ}
 use lib.Dec.{eqb}
 use Rattle.blocks.specs.Bytes.{wordAt}
 use Rattle.records.specs.Bytes.{part}
+use Rattle.records.specs.Record.{afterAt, answerAt, bytesAt}
 use Rattle.text.specs.Same.{sameBytes}
 
 abbrev pub leftAsTold : List ℕ → ℕ → List ℕ → List ℕ → List ℕ → List ℕ → Bool
-leftAsTold r number state memory want answer = eqb number (wordAt r 63) && (sameBytes state (part r 39 63) && (sameBytes memory want && sameBytes answer (part r 63 87)))
+leftAsTold r number state memory want answer = eqb number (wordAt r answerAt) && (sameBytes state (part r afterAt answerAt) && (sameBytes memory want && sameBytes answer (part r answerAt bytesAt)))

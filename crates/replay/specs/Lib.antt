@@ -1,5 +1,6 @@
--- What replaying a sample states: when the core agrees with a record of a step, a run or a window, and how many it does not agree with.
+-- What the core answers to a record, what the record says of it, and how that is counted.
 pub mod AsTold
 pub mod Window
 pub mod Told
 pub mod Replay
+pub mod Met

@@ -1,12 +1,12 @@
 -- When the core agrees with a record, and how many records of a sample it does not agree with.
 use mathlib.Core.Bool.{Bool, true, false, not, _&&_}
 use mathlib.Core.List.{List}
-use Prim.Native.Nat.{ℕ, zero, suc, _+_, _*_}
+use Prim.Native.Nat.{ℕ, zero, suc, _+_, _*_, _≤_}
 use lib.Dec.{eqb, leb}
 use lib.ListN.{length, take, drop}
 use Rattle.sm83.specs.Basics.{if_then_else_, bit}
 use Rattle.blocks.specs.Bytes.{wordAt}
-use Rattle.records.specs.Record.{kindOf, nameLength, memoryLength, listed, changed}
+use Rattle.records.specs.Record.{headSize, kindOf, nameLength, memoryLength, changed, changesAt}
 use Rattle.records.specs.Front.{frontSize}
 use Rattle.replay.specs.Told.{asked, told, sameLeft}
 use Rattle.replay.specs.Window.{agreesWindow}
@@ -15,16 +15,22 @@ use Rattle.replay.specs.Window.{agreesWindow}
 abbrev pub mostMemory : ℕ
 mostMemory = 131072
 
+-- what a comparison asks of a record and of the two slices that it is lent
+pub record Lends (r : List ℕ) (room : ℕ) (m : List ℕ) (room' : ℕ) (other : List ℕ) : Type 0 where
+  pub headed : headSize ≤ length r
+  pub roomy : room ≤ length m
+  pub roomy-too : room' ≤ length other
+
 -- a record is as long as its parts say
 abbrev pub runSize : List ℕ → ℕ
-runSize r = 87 + 3 * listed r + 3 * changed r + nameLength r
+runSize r = changesAt r + 3 * changed r + nameLength r
 
 unfoldable pub agreesRun : List ℕ → Bool
 agreesRun r = if eqb (length r) (runSize r) then sameLeft (asked r (memoryLength r)) (told r (memoryLength r)) else false
 
 unfoldable pub agrees : List ℕ → Bool
 agrees r =
-    if leb 15 (length r) then
+    if leb headSize (length r) then
     (if leb (memoryLength r) mostMemory then
     (if leb (kindOf r) 1 then agreesRun r
     else (if eqb (kindOf r) 2 then agreesWindow r else false)) else false) else false

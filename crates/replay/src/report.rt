@@ -1,6 +1,7 @@
 // What a replay met, counted, in words.
-ghost use Prim.Native.Nat.{_+_, _≤_};
-ghost use lib.ListN.{length};
+ghost use mathlib.Core.Path.{_≡_};
+ghost use Rattle.records.specs.Notes.{kinds};
+ghost use Rattle.replay.specs.Met.{met};
 use libc::STDOUT_FILENO;
 use records::notes::HALTS;
 use records::notes::KINDS;
@@ -8,7 +9,9 @@ use records::notes::OUTCOMES;
 use records::notes::VERDICTS;
 use text::lines::line_of;
 
-fn long(n: u32) -> u64 {
+fn long(n: u32) -> u64
+    ensures { λ r. ⌜ r ≡ n ⌝ }
+{
     n as u64
 }
 
@@ -19,13 +22,15 @@ fn line(name: &[u8], mark: &[u8], n: u32) {
     io::write_all(STDOUT_FILENO, b"\n");
 }
 
-// How many of the first 512 counts are not 0.
-fn opcodes_met(counts: &[u32; 1536]) -> u32 {
+// How many opcodes were met: their counts stand in front of all others.
+fn opcodes_met(counts: &[u32; 1536]) -> u32
+    ensures { λ r. ⌜ r ≡ met kinds (now (counts .entry)) ⌝ }
+{
     let mut met: u32 = 0;
     let mut i: usize = 0;
-    while i < 512 {
+    while i < KINDS {
         if counts[i] != 0 {
-            met = std::num::wrapping_add_u32(met, 1);
+            met = met + 1;
         }
         i += 1;
     }

@@ -1,8 +1,8 @@
 // One record after the other.
 ghost use mathlib.Core.Path.{_≡_};
 ghost use mathlib.Core.Bool.{not};
-ghost use Prim.Native.Nat.{_+_, _≤_};
 ghost use Rattle.sm83.specs.Basics.{bit};
+ghost use Rattle.records.specs.Lent.{UpTo};
 ghost use Rattle.replay.specs.Replay.{agrees, differs};
 use crate::said::say_cut;
 use crate::said::say_differs;
@@ -24,7 +24,7 @@ fn round(
     other: &mut [u8; 131072],
     counts: &mut [u32; 1536],
 ) -> usize
-    ensures { λ r. ⌜ (r ≡ bit (not (agrees (now (item .entry))))) × (r ≤ 1) ⌝ }
+    ensures { λ r. ⌜ UpTo 1 (bit (not (agrees (now (item .entry))))) r ⌝ }
 {
     note(item, mem, counts);
     let same = agrees(item, mem, other);

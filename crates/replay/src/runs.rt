@@ -3,12 +3,18 @@ ghost use mathlib.Core.Path.{_≡_};
 ghost use Prim.Native.Nat.{_+_, _*_, _≤_};
 ghost use lib.ListN.{length};
 ghost use Rattle.library.specs.Left.{left, runBlocks};
-ghost use Rattle.records.specs.Record.{memoryLength, changed};
-ghost use Rattle.replay.specs.Told.{budgetOf, changesAt, asked, told, sameLeft};
-ghost use Rattle.replay.specs.Replay.{agreesRun};
+ghost use Rattle.records.specs.Record.{memoryLength, changed, changesAt};
+ghost use Rattle.replay.specs.Told.{budgetOf, asked, told, sameLeft};
+ghost use Rattle.replay.specs.Replay.{Lends, agreesRun};
 use crate::told::as_told;
 use blocks::bytes::word_at;
 use library::calls::run_blocks;
+use records::layout::AFTER;
+use records::layout::BUDGET;
+use records::layout::BYTES;
+use records::layout::KIND;
+use records::layout::NAME_LENGTH;
+use records::layout::STATE;
 use records::layout::changed;
 use records::layout::lay;
 use records::layout::listed;
@@ -30,23 +36,29 @@ fn compare(item: &[u8], mem: &mut [u8], want: &mut [u8]) -> bool
     requires { ⌜ changesAt (now item) + 3 * changed (now item) ≤ length (now item) ⌝ }
     ensures { λ r. ⌜ r ≡ sameLeft (asked (now (item .entry)) (length (now (mem .entry)))) (told (now (item .entry)) (length (now (want .entry)))) ⌝ }
 {
-    let from = 87 + 3 * listed(item);
+    let from = BYTES + 3 * listed(item);
     let count = changed(item);
-    lay(item, 87, mem);
-    lay(item, 87, want);
+    lay(item, BYTES, mem);
+    lay(item, BYTES, want);
     patch(item, from, count, want);
     let mut state = [0u8; 24];
-    bytes::copy(&item[15..39], &mut state);
+    bytes::copy(&item[STATE..AFTER], &mut state);
     let mut answer = [0u8; 24];
-    let number = ask(item[2], &mut state, mem, word_at(item, 11), &mut answer);
+    let number = ask(
+        item[KIND],
+        &mut state,
+        mem,
+        word_at(item, BUDGET),
+        &mut answer,
+    );
     as_told(item, number, &state, mem, want, &answer)
 }
 
 pub fn run_agrees(item: &[u8], mem: &mut [u8], want: &mut [u8]) -> bool
-    requires { ⌜ (15 ≤ length (now item)) × (memoryLength (now item) ≤ length (now mem)) × (memoryLength (now item) ≤ length (now want)) ⌝ }
+    requires { ⌜ Lends (now item) (memoryLength (now item)) (now mem) (memoryLength (now item)) (now want) ⌝ }
     ensures { λ r. ⌜ r ≡ agreesRun (now (item .entry)) ⌝ }
 {
-    let size = 87 + 3 * listed(item) + 3 * changed(item) + wide(item[3]);
+    let size = BYTES + 3 * listed(item) + 3 * changed(item) + wide(item[NAME_LENGTH]);
     if item.len() != size {
         return false;
     }

@@ -1,5 +1,6 @@
 // What a replay says as it goes: of a record with a name, of a record that differs, and of a sample that is not whole.
 use libc::STDOUT_FILENO;
+use records::layout::NAME_LENGTH;
 use records::layout::wide;
 
 fn say(words: &[u8], number: usize) {
@@ -17,10 +18,10 @@ fn say_result(same: bool) {
 
 // A record with a name is a row of the document, or of docs/DIFFERENCES.md; the name stands at its end.
 pub fn say_row(item: &[u8], same: bool) {
-    if item.len() < 4 {
+    if item.len() <= NAME_LENGTH {
         return;
     }
-    let n = wide(item[3]);
+    let n = wide(item[NAME_LENGTH]);
     if n == 0 {
         return;
     }

@@ -4,8 +4,13 @@ ghost use mathlib.Core.Path.{_≡_};
 ghost use Prim.Native.Nat.{_≤_};
 ghost use lib.ListN.{length};
 ghost use Rattle.sm83.specs.Basics.{bit};
+ghost use Rattle.records.specs.Record.{bytesAt};
+ghost use Rattle.records.specs.Lent.{UpTo};
 ghost use Rattle.replay.specs.AsTold.{leftAsTold};
 use blocks::bytes::word_at;
+use records::layout::AFTER;
+use records::layout::ANSWER;
+use records::layout::BYTES;
 use text::same::same;
 
 // `want` is memory as the record says that it is left.
@@ -17,19 +22,19 @@ pub fn as_told(
     want: &[u8],
     answer: &[u8],
 ) -> bool
-    requires { ⌜ 87 ≤ length (now item) ⌝ }
+    requires { ⌜ bytesAt ≤ length (now item) ⌝ }
     ensures { λ r. ⌜ r ≡ leftAsTold (now (item .entry)) number (now (state .entry)) (now (mem .entry)) (now (want .entry)) (now (answer .entry)) ⌝ }
 {
-    let numbered = number == word_at(item, 63);
-    let stated = same(state, &item[39..63]);
+    let numbered = number == word_at(item, ANSWER);
+    let stated = same(state, &item[AFTER..ANSWER]);
     let kept = same(mem, want);
-    let answered = same(answer, &item[63..87]);
+    let answered = same(answer, &item[ANSWER..BYTES]);
     numbered & (stated & (kept & answered))
 }
 
 // How much a record adds to the differences.
 pub fn one_unless(same: bool) -> usize
-    ensures { λ r. ⌜ (r ≡ bit (not same)) × (r ≤ 1) ⌝ }
+    ensures { λ r. ⌜ UpTo 1 (bit (not same)) r ⌝ }
 {
     if same { 0 } else { 1 }
 }

@@ -12,25 +12,25 @@ use Rattle.blocks.specs.Bytes.{wordAt}
 use Rattle.library.specs.Screened.{LeftByScreen, leftByScreen, screenBlocks}
 use Rattle.records.specs.Bytes.{part}
 use Rattle.text.specs.Same.{sameBytes}
-use Rattle.records.specs.Record.{nameLength, memoryLength, listed, changed, memoryFrom}
+use Rattle.records.specs.Record.{firstAt, lastAt, verdictAt, marksAt, nameLength, memoryLength, listed, changed, memoryFrom}
 use Rattle.text.proofs.same.SameBytes.{and-first, and-second, same-equal}
 use Rattle.replay.specs.Window.{windowSize, askedScreen, toldScreen, sameScreen, agreesWindow}
 
 module _ (r : List ℕ) {n k w : ℕ} (listing : n ≡ listed r) (changing : k ≡ changed r) (naming : w ≡ nameLength r) where
-  window-told : 19 + 2 * k + 3 * n + w ≡ windowSize r
+  window-told : marksAt + 2 * k + 3 * n + w ≡ windowSize r
   window-told = simp (listing, changing, naming)
 
-  pub window-missized : (length r ≡ 19 + 2 * k + 3 * n + w → ⊥) → false ≡ agreesWindow r
+  pub window-missized : (length r ≡ marksAt + 2 * k + 3 * n + w → ⊥) → false ≡ agreesWindow r
   unfolding agreesWindow
   window-missized h = simp (ne-eqb (length r) (windowSize r) (λ e. h (e ∙ sym window-told)))
 
-  pub window-sized : {size : ℕ} {b : Bool} → length r ≡ 19 + 2 * k + 3 * n + w → size ≡ memoryLength r → b ≡ sameScreen (askedScreen r size) (toldScreen r) → b ≡ agreesWindow r
+  pub window-sized : {size : ℕ} {b : Bool} → length r ≡ marksAt + 2 * k + 3 * n + w → size ≡ memoryLength r → b ≡ sameScreen (askedScreen r size) (toldScreen r) → b ≡ agreesWindow r
   unfolding agreesWindow
   window-sized h s e =
       simp (eq-eqb (length r) (windowSize r) (h ∙ window-told))
       (e ∙ ap (λ (i : ℕ). sameScreen (askedScreen r i) (toldScreen r)) s)
 
-pub screen-compared : (r : List ℕ) (size n first last : ℕ) (mem marks : List ℕ) (number : ℕ) (marks' answer' : List ℕ) (m a : Bool) → n ≡ changed r → mem ≡ memoryFrom r (19 + 2 * n) size → marks ≡ part r 19 (19 + n) → first ≡ wordAt r 11 → last ≡ wordAt r 13 → leftByScreen number marks' answer' ≡ screenBlocks mem first last marks (replicate 4 0) → m ≡ sameBytes marks' (part r (19 + n) (19 + 2 * n)) → a ≡ sameBytes answer' (part r 15 19) → (eqb number (byteAt r 15) && (m && a)) ≡ sameScreen (askedScreen r size) (toldScreen r)
+pub screen-compared : (r : List ℕ) (size n first last : ℕ) (mem marks : List ℕ) (number : ℕ) (marks' answer' : List ℕ) (m a : Bool) → n ≡ changed r → mem ≡ memoryFrom r (marksAt + 2 * n) size → marks ≡ part r marksAt (marksAt + n) → first ≡ wordAt r firstAt → last ≡ wordAt r lastAt → leftByScreen number marks' answer' ≡ screenBlocks mem first last marks (replicate 4 0) → m ≡ sameBytes marks' (part r (marksAt + n) (marksAt + 2 * n)) → a ≡ sameBytes answer' (part r verdictAt marksAt) → (eqb number (byteAt r verdictAt) && (m && a)) ≡ sameScreen (askedScreen r size) (toldScreen r)
 unfolding askedScreen toldScreen
 screen-compared r size n first last mem marks number marks' answer' m a changing laid copy from to screened same-m same-a =
     let so : leftByScreen number marks' answer' ≡ askedScreen r size = screened ∙ simp (copy, laid, from, to, changing) in

@@ -5,10 +5,10 @@ use Rattle.phk.proofs.page.within.Statement.{statement}
 use Rattle.phk.proofs.page.within.Tie as tie
 
 returns : tie.Need-returns
-returns c = counts _ _ (omega arith)
+returns c = (counts _ _ (omega arith), omega arith)
 
 returns-2 : tie.Need-returns-2
-returns-2 c = counts _ _ (omega arith)
+returns-2 c = (counts _ _ (omega arith), omega arith)
 
 pub within-spec : {M : Type 1} → statement M
 within-spec = tie.close (tie.spec returns returns-2)

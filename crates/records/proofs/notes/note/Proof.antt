@@ -5,13 +5,25 @@ use Rattle.records.proofs.notes.note.Statement.{statement}
 use Rattle.records.proofs.notes.note.Tie as tie
 
 returns : tie.Need-returns
-returns c = too-short (c .before .before .args .item .now) (c .before .before .args .counts .now) (c .if1 .taken)
+returns c = let args = c .before .before .args in too-short (args .item .now) (args .counts .now) (c .if1 .taken)
 
 returns-2 : tie.Need-returns-2
-returns-2 c = window-noted (c .before .before .before .before .before .before .before .before .before .before .before .args .item .now) (c .before .before .before .before .before .before .before .before .before .before .before .args .counts .now) (c .before .before .before .before .before .before .before .before .before .if1 .left) (c .before .before .before .before .before .before .wide .ensures .0) (c .before .before .before .before .before .count .ensures) (c .before .before .before .before .if2 .taken) (c .before .wide2 .ensures .0) (c .count2 .ensures)
+returns-2 c =
+    let kind = c .before .before .before .before in
+    let first = kind .before in
+    let long = first .before .before .before .before in
+    let args = long .before .before .args in
+    window-noted (args .item .now) (args .counts .now) (long .if1 .left) (first .before .wide .ensures .same) (first .count .ensures)
+    (kind .if2 .taken) (c .before .wide2 .ensures .same) (c .count2 .ensures)
 
 returns-3 : tie.Need-returns-3
-returns-3 c = other-noted (c .before .before .before .before .before .before .before .before .before .before .args .item .now) (c .before .before .before .before .before .before .before .before .before .before .args .counts .now) (c .before .before .before .before .before .before .before .before .if1 .left) (c .before .before .before .before .before .wide .ensures .0) (c .before .before .before .before .count .ensures) (c .before .before .before .if2 .left) (c .note-run .ensures)
+returns-3 c =
+    let kind = c .before .before .before in
+    let first = kind .before in
+    let long = first .before .before .before .before in
+    let args = long .before .before .args in
+    other-noted (args .item .now) (args .counts .now) (long .if1 .left) (first .before .wide .ensures .same) (first .count .ensures)
+    (kind .if2 .left) (c .note-run .ensures)
 
 pub note-spec : {M : Type 1} → statement M
 note-spec =

@@ -6,7 +6,14 @@ use Rattle.records.proofs.notes.note_fetch.Statement.{statement}
 use Rattle.records.proofs.notes.note_fetch.Tie as tie
 
 returns : tie.Need-returns
-returns c = fetch-noted (c .before .before .before .before .before .before .before .before .before .before .before .before .before .before .before .before .before .before .before .before .args .item .now) (length (c .before .before .before .before .before .before .before .before .before .before .before .before .before .before .before .before .before .before .before .before .args .mem .now)) (c .before .before .before .before .before .before .before .before .before .before .before .before .before .before .before .before .before .before .before .before .args .counts .now) (c .before .before .before .before .before .before .before .before .before .before .before .before .before .before .before .lay .ensures) (c .before .before .before .before .before .before .before .before .before .before .opcode .ensures) (c .before .before .before .before .before .before .count .ensures) (c .before .before .note-prefix .ensures)
+returns c =
+    let again = c .before .before in
+    let once = again .before .before .before .before in
+    let fetched = once .before .before .before .before in
+    let laid = fetched .before .before .before .before .before in
+    let args = laid .before .before .before .before .before .args in
+    fetch-noted (args .item .now) (length (args .mem .now)) (args .counts .now)
+    (laid .lay .ensures) (fetched .opcode .ensures) (once .count .ensures) (again .note-prefix .ensures)
 
 pub note-fetch-spec : {M : Type 1} → statement M
 note-fetch-spec =

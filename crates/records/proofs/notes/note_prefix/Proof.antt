@@ -4,7 +4,7 @@ use Rattle.records.proofs.notes.note_prefix.Statement.{statement}
 use Rattle.records.proofs.notes.note_prefix.Tie as tie
 
 returns : tie.Need-returns
-returns c = simp (c .before .before .before .before .if1 .taken) (c .before .before .count .ensures)
+returns c = let counted = c .before .before in simp (counted .before .before .if1 .taken) (counted .count .ensures)
 
 returns-2 : tie.Need-returns-2
 returns-2 c = simp (c .if1 .left)

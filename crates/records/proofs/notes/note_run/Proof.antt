@@ -5,13 +5,32 @@ use Rattle.records.proofs.notes.note_run.Statement.{statement}
 use Rattle.records.proofs.notes.note_run.Tie as tie
 
 returns : tie.Need-returns
-returns c = run-short (c .before .before .before .before .before .args .item .now) (c .before .listed .ensures .0) (c .before .before .before .before .before .args .counts .now) (c .if1 .taken)
+returns c =
+    let listing = c .before in
+    let args = listing .before .before .before .before .args in
+    run-short (args .item .now) (listing .listed .ensures .same) (args .counts .now) (c .if1 .taken)
 
 returns-2 : tie.Need-returns-2
-returns-2 c = step-noted (c .before .before .before .before .before .before .before .before .before .before .before .before .before .before .before .before .before .before .before .before .before .before .before .before .before .before .args .item .now) (c .before .before .before .before .before .before .before .before .before .before .before .before .before .before .before .before .before .before .before .before .before .before .listed .ensures .0) (c .before .before .before .before .before .before .before .before .before .before .before .before .before .before .before .before .before .before .before .before .before .before .before .before .before .before .args .counts .now) (c .before .before .before .before .before .before .before .before .before .before .before .before .before .before .before .before .before .before .before .before .before .if1 .left) (c .before .before .before .before .before .before .before .before .before .before .before .before .before .before .before .before .before .before .wide .ensures .0) (c .before .before .before .before .before .before .before .before .before .before .before .before .wide2 .ensures .0) (c .before .before .before .before .before .before .before .before .before .before .before .before .before .before .before .before .before .count .ensures) (c .before .before .before .before .before .before .before .before .before .before .before .count2 .ensures) (c .before .before .before .before .before .before .before .if2 .taken) (c .before .before .before .before .note-opcode .ensures)
+returns-2 c =
+    let opcode = c .before .before .before .before in
+    let kind = opcode .before .before .before in
+    let outcome = kind .before .before .before .before in
+    let halt = outcome .before .before .before .before .before .before in
+    let long = halt .before .before .before .before in
+    let args = long .before .before .before .before .before .args in
+    step-noted (args .item .now) (long .before .listed .ensures .same) (args .counts .now) (long .if1 .left)
+    (halt .before .wide .ensures .same) (outcome .before .wide2 .ensures .same) (halt .count .ensures) (outcome .count2 .ensures)
+    (kind .if2 .taken) (opcode .note-opcode .ensures)
 
 returns-3 : tie.Need-returns-3
-returns-3 c = run-noted (c .before .before .before .before .before .before .before .before .before .before .before .before .before .before .before .before .before .before .before .args .item .now) (c .before .before .before .before .before .before .before .before .before .before .before .before .before .before .before .listed .ensures .0) (c .before .before .before .before .before .before .before .before .before .before .before .before .before .before .before .before .before .before .before .args .counts .now) (c .before .before .before .before .before .before .before .before .before .before .before .before .before .before .if1 .left) (c .before .before .before .before .before .before .before .before .before .before .before .wide .ensures .0) (c .before .before .before .before .before .wide2 .ensures .0) (c .before .before .before .before .before .before .before .before .before .before .count .ensures) (c .before .before .before .before .count2 .ensures) (c .if2 .left)
+returns-3 c =
+    let outcome = c .before .before .before .before in
+    let halt = outcome .before .before .before .before .before .before in
+    let long = halt .before .before .before .before in
+    let args = long .before .before .before .before .before .args in
+    run-noted (args .item .now) (long .before .listed .ensures .same) (args .counts .now) (long .if1 .left)
+    (halt .before .wide .ensures .same) (outcome .before .wide2 .ensures .same) (halt .count .ensures) (outcome .count2 .ensures)
+    (c .if2 .left)
 
 pub note-run-spec : {M : Type 1} → statement M
 note-run-spec =

@@ -6,35 +6,49 @@ use Rattle.records.proofs.notes.opcode.Tie as tie
 
 returns : tie.Need-returns
 returns c =
-    let args = c .before .before .before .before .before .before .before .before .before .before .before .before .before .before .before .args in
-    let look = c .before .before .before .before .before .before .before .before .before .before .before .lowest-pending .ensures in
-    let pends = c .before .before .before .before .before .before .before .before .is-pending .ensures in
-    let told = c .before .before .before .before .before .before .before .fetches .ensures in
-    fetched-under-bug (args .state .now) (args .mem .now) _ (look .seen) (look .same) pends told (c .before .before .before .before .before .before .if1 .taken) (c .before .before .before .before .before .word-at .ensures) (c .before .before .before .if2 .taken) (c .before .if3 .taken) (c .wide .ensures .0)
+    let prefixed = c .before .before .before in
+    let word = prefixed .before .before in
+    let fetching = word .before in
+    let told = fetching .before in
+    let pends = told .before in
+    let look = pends .before .before .before in
+    let args = look .before .before .before .before .args in
+    fetched-under-bug (args .state .now) (args .mem .now) _ (look .lowest-pending .ensures .seen) (look .lowest-pending .ensures .same) (pends .is-pending .ensures) (told .fetches .ensures)
+    (fetching .if1 .taken) (word .word-at .ensures) (prefixed .if2 .taken) (c .before .if3 .taken) (c .wide .ensures .same)
 
 returns-2 : tie.Need-returns-2
 returns-2 c =
-    let args = c .before .before .before .before .before .before .before .before .before .before .before .before .before .before .before .before .before .before .args in
-    let look = c .before .before .before .before .before .before .before .before .before .before .before .before .before .before .lowest-pending .ensures in
-    let pends = c .before .before .before .before .before .before .before .before .before .before .before .is-pending .ensures in
-    let told = c .before .before .before .before .before .before .before .before .before .before .fetches .ensures in
-    fetched-after (args .state .now) (args .mem .now) _ (look .seen) (look .same) pends told (c .before .before .before .before .before .before .before .before .before .if1 .taken) (c .before .before .before .before .before .before .before .before .word-at .ensures) (c .before .before .before .before .before .before .if2 .taken) (c .before .before .before .before .if3 .left) (c .before .before .before .wrapping-add .ensures) (c .wide2 .ensures .0)
+    let after = c .before .before .before in
+    let prefixed = after .before .before .before in
+    let word = prefixed .before .before in
+    let fetching = word .before in
+    let told = fetching .before in
+    let pends = told .before in
+    let look = pends .before .before .before in
+    let args = look .before .before .before .before .args in
+    fetched-after (args .state .now) (args .mem .now) _ (look .lowest-pending .ensures .seen) (look .lowest-pending .ensures .same) (pends .is-pending .ensures) (told .fetches .ensures)
+    (fetching .if1 .taken) (word .word-at .ensures) (prefixed .if2 .taken) (after .before .if3 .left) (after .wrapping-add .ensures) (c .wide2 .ensures .same)
 
 returns-3 : tie.Need-returns-3
 returns-3 c =
-    let args = c .before .before .before .before .before .before .before .before .before .before .before .before .before .args in
-    let look = c .before .before .before .before .before .before .before .before .before .lowest-pending .ensures in
-    let pends = c .before .before .before .before .before .before .is-pending .ensures in
-    let told = c .before .before .before .before .before .fetches .ensures in
-    fetched (args .state .now) (args .mem .now) _ (look .seen) (look .same) pends told (c .before .before .before .before .if1 .taken) (c .before .before .before .word-at .ensures) (c .before .if2 .left) (c .wide3 .ensures .0)
+    let word = c .before .before .before in
+    let fetching = word .before in
+    let told = fetching .before in
+    let pends = told .before in
+    let look = pends .before .before .before in
+    let args = look .before .before .before .before .args in
+    fetched (args .state .now) (args .mem .now) _ (look .lowest-pending .ensures .seen) (look .lowest-pending .ensures .same) (pends .is-pending .ensures) (told .fetches .ensures)
+    (fetching .if1 .taken) (word .word-at .ensures) (c .before .if2 .left) (c .wide3 .ensures .same)
 
 returns-4 : tie.Need-returns-4
 returns-4 c =
-    let args = c .before .before .before .before .before .before .before .before .before .args in
-    let look = c .before .before .before .before .before .lowest-pending .ensures in
-    let pends = c .before .before .is-pending .ensures in
-    let told = c .before .fetches .ensures in
-    not-fetched (args .state .now) (args .mem .now) _ (look .seen) (look .same) pends told (c .if1 .left)
+    let fetching = c in
+    let told = fetching .before in
+    let pends = told .before in
+    let look = pends .before .before .before in
+    let args = look .before .before .before .before .args in
+    not-fetched (args .state .now) (args .mem .now) _ (look .lowest-pending .ensures .seen) (look .lowest-pending .ensures .same) (pends .is-pending .ensures) (told .fetches .ensures)
+    (fetching .if1 .left)
 
 pub opcode-spec : {M : Type 1} → statement M
 opcode-spec =

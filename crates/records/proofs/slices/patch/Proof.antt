@@ -19,8 +19,14 @@ loop-holds c = (omega arith, refl, refl)
 
 loop-again : tie.Need-loop-again Inv-loop μ-loop
 loop-again c =
-    let at = c .before .before .before .before .before .before .before .loop in
-    (omega arith, ap length (c .before .before .put .ensures) ∙ length-set (at .s) _ _ ∙ at .inv .1, patch-turn _ _ (at .left) (at .s) _ _ _ _ (c .before .before .before .before .before .before .loop-test .taken) (c .before .before .put .ensures) (c .before .before .before .before .before .word-at .ensures) refl (at .inv .2))
+    let put = c .before .before in
+    let word = put .before .before .before in
+    let turn = word .before in
+    let at = turn .before .loop in (
+      omega arith,
+      ap length (put .put .ensures) ∙ length-set (at .s) _ _ ∙ at .inv .1,
+      patch-turn _ _ (at .left) (at .s) _ _ _ _ (turn .loop-test .taken) (put .put .ensures) (word .word-at .ensures) refl (at .inv .2),
+    )
 
 returns : tie.Need-returns Inv-loop μ-loop
 returns c = let e : c .before .loop .left ≡ 0 = omega arith in sym (patch-none _ _ _ _ e) ∙ c .before .loop .inv .2

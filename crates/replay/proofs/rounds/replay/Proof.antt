@@ -24,27 +24,46 @@ loop-holds c = (omega arith, omega arith, omega arith, begun (c .before .before 
 
 loop-again : tie.Need-loop-again Inv-loop μ-loop
 loop-again c =
-    let at = c .before .before .before .before .before .before .before .before .loop in
-    let size = c .before .before .before .before .before .before .front-size .ensures in
-    (omega (arith, size .1), omega arith, omega (arith, c .round .ensures .1), one-more (c .before .before .before .before .before .before .before .before .before .before .before .before .args .file .now) (at .at) _ (at .i) (at .differ) (at .inv .3) (c .before .before .before .before .before .before .before .loop-test .taken) (size .0) (c .before .before .before .before .before .if2 .left) (c .round .ensures .0))
+    let whole = c .before .before .before .before .before in
+    let front = whole .before in
+    let turn = front .before in
+    let loop = turn .before in
+    let at = loop .loop in
+    let size = front .front-size .ensures in
+    let file = loop .before .before .before .before .args .file .now in (
+      omega (arith, size .fits),
+      omega arith,
+      omega (arith, c .round .ensures .small),
+      one-more file (at .at) _ (at .i) (at .differ) (at .inv .3) (turn .loop-test .taken) (size .size) (whole .if2 .left) (c .round .ensures .same),
+    )
 
 cut : tie.Need-returns-2 Inv-loop μ-loop
 cut c =
-    let at = c .before .before .before .before .loop in
-    let file = c .before .before .before .before .before .before .before .before .args .file .now in
-    in-all file (c .before .before .before .before .before .before .if1 .left) (c .before .before .before .before .before .word-at .ensures) (ends-cut file (at .at) _ (at .i) (at .differ) (at .inv .3) (c .before .before .before .loop-test .taken) (c .before .before .front-size .ensures .0) (c .before .if2 .taken))
+    let front = c .before .before in
+    let loop = front .before .before in
+    let at = loop .loop in
+    let long = loop .before .before in
+    let file = long .before .before .args .file .now in
+    in-all file (long .if1 .left) (loop .before .word-at .ensures)
+    (ends-cut file (at .at) _ (at .i) (at .differ) (at .inv .3) (front .before .loop-test .taken) (front .front-size .ensures .size) (c .before .if2 .taken))
 
 rest : tie.Need-returns-3 Inv-loop μ-loop
 rest c =
-    let at = c .before .before .before .loop in
-    let file = c .before .before .before .before .before .before .before .args .file .now in
-    in-all file (c .before .before .before .before .before .if1 .left) (c .before .before .before .before .word-at .ensures) (ends-with-rest file (at .at) _ (at .i) (at .differ) (at .inv .3) (c .before .before .loop-test .left) (c .before .if3 .taken))
+    let loop = c .before .before .before in
+    let at = loop .loop in
+    let long = loop .before .before in
+    let file = long .before .before .args .file .now in
+    in-all file (long .if1 .left) (loop .before .word-at .ensures)
+    (ends-with-rest file (at .at) _ (at .i) (at .differ) (at .inv .3) (c .before .before .loop-test .left) (c .before .if3 .taken))
 
 whole : tie.Need-returns-4 Inv-loop μ-loop
 whole c =
-    let at = c .before .before .loop in
-    let file = c .before .before .before .before .before .before .args .file .now in
-    in-all file (c .before .before .before .before .if1 .left) (c .before .before .before .word-at .ensures) (ends file (at .at) _ (at .i) (at .differ) (at .inv .3) (c .before .loop-test .left) (c .if3 .left))
+    let loop = c .before .before in
+    let at = loop .loop in
+    let long = loop .before .before in
+    let file = long .before .before .args .file .now in
+    in-all file (long .if1 .left) (loop .before .word-at .ensures)
+    (ends file (at .at) _ (at .i) (at .differ) (at .inv .3) (c .before .loop-test .left) (c .if3 .left))
 
 pub replay-spec : {M : Type 1} → statement M
 replay-spec =
@@ -61,12 +80,12 @@ replay-spec =
     (λ c κs. search needs)
     (λ c. omega arith)
     cut
-    (λ c. omega (arith, c .before .front-size .ensures .1))
+    (λ c. omega (arith, c .before .front-size .ensures .fits))
     (λ c. omega arith)
     (λ c. omega arith)
-    (λ c. omega (arith, c .before .front-size .ensures .1))
+    (λ c. omega (arith, c .before .front-size .ensures .fits))
     (λ c κs. search needs)
-    (λ c. omega (arith, c .round .ensures .1))
+    (λ c. omega (arith, c .round .ensures .small))
     (λ c. omega arith)
     (λ c. omega arith)
     loop-again

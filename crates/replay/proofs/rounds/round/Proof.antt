@@ -4,10 +4,17 @@ use Rattle.replay.proofs.rounds.round.Statement.{statement}
 use Rattle.replay.proofs.rounds.round.Tie as tie
 
 returns : tie.Need-returns
-returns c = let one = c .before .one-unless .ensures in (simp (← c .before .before .before .agrees .ensures) (one .0), one .1)
+returns c =
+    let one = c .before .one-unless .ensures in
+    let same = c .before .before .before .agrees .ensures in
+    record { same = simp (← same) (one .same); small = one .small }
 
 returns-2 : tie.Need-returns-2
-returns-2 c = let one = c .before .before .one-unless .ensures in (simp (← c .before .before .before .before .agrees .ensures) (one .0), one .1)
+returns-2 c =
+    let counted = c .before .before in
+    let one = counted .one-unless .ensures in
+    let same = counted .before .before .agrees .ensures in
+    record { same = simp (← same) (one .same); small = one .small }
 
 pub round-spec : {M : Type 1} → statement M
 round-spec =

@@ -5,10 +5,16 @@ use Rattle.replay.proofs.runs.ask.Statement.{statement}
 use Rattle.replay.proofs.runs.ask.Tie as tie
 
 a-step : tie.Need-returns
-a-step c = simp (eq-eqb _ _ (c .before .before .before .before .before .before .before .before .before .before .if1 .taken)) (c .before .before .before .before .before .before .run-blocks .ensures)
+a-step c =
+    let ran = c .before .before .before .before .before .before in
+    let kind = ran .before .before .before .before in
+    simp (eq-eqb _ _ (kind .if1 .taken)) (ran .run-blocks .ensures)
 
 a-run : tie.Need-returns-2
-a-run c = simp (ne-eqb _ _ (c .before .before .before .before .before .before .before .before .before .before .if1 .left)) (c .before .before .before .before .before .before .run-blocks2 .ensures)
+a-run c =
+    let ran = c .before .before .before .before .before .before in
+    let kind = ran .before .before .before .before in
+    simp (ne-eqb _ _ (kind .if1 .left)) (ran .run-blocks2 .ensures)
 
 pub ask-spec : {M : Type 1} → statement M
 ask-spec =

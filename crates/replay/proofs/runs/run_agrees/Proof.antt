@@ -8,19 +8,35 @@ use Rattle.replay.proofs.runs.run_agrees.Statement.{statement}
 use Rattle.replay.proofs.runs.run_agrees.Tie as tie
 
 returns : tie.Need-returns
-returns c = run-missized _ (c .before .before .before .before .listed .ensures .0) (c .before .before .before .changed .ensures .0) (c .before .wide .ensures .0) (c .if1 .taken)
+returns c =
+    let naming = c .before in
+    let changed = naming .before .before in
+    run-missized _ (changed .before .listed .ensures .same) (changed .changed .ensures .same) (naming .wide .ensures .same) (c .if1 .taken)
 
 slice-aggregate-compare : tie.Need-slice-aggregate-compare
-slice-aggregate-compare c = sym (length-take-le _ _ (within (c .before .memory-length .ensures) (c .before .before .before .before .before .before .before .before .before .before .pre .1)))
+slice-aggregate-compare c =
+    let size = c .before in
+    let start = size .before .before .before .before .before .before .before .before .before in
+    sym (length-take-le _ _ (within (size .memory-length .ensures) (start .pre .roomy)))
 
 slice-aggregate-compare-2 : tie.Need-slice-aggregate-compare-2
-slice-aggregate-compare-2 c = sym (length-take-le _ _ (within (c .before .before .memory-length .ensures) (c .before .before .before .before .before .before .before .before .before .before .before .pre .2)))
+slice-aggregate-compare-2 c =
+    let size = c .before .before in
+    let start = size .before .before .before .before .before .before .before .before .before in
+    sym (length-take-le _ _ (within (size .memory-length .ensures) (start .pre .roomy-too)))
 
 returns-2 : tie.Need-returns-2
 returns-2 c =
-    let start = c .before .before .before .before .before .before .before .before .before .before .before .before .before .before .before .before in
-    let n = c .before .before .before .before .before .before .before .memory-length .ensures in
-    run-sized _ (c .before .before .before .before .before .before .before .before .before .before .before .before .listed .ensures .0) (c .before .before .before .before .before .before .before .before .before .before .before .changed .ensures .0) (c .before .before .before .before .before .before .before .before .before .wide .ensures .0) (c .before .before .before .before .before .before .before .before .if1 .left) (length-take-le _ _ (within n (start .pre .1)) ∙ n) (length-take-le _ _ (within n (start .pre .2)) ∙ n) (c .before .before .before .before .compare .ensures)
+    let compared = c .before .before .before .before in
+    let size = compared .before .before .before in
+    let sized = size .before in
+    let naming = sized .before in
+    let changed = naming .before .before in
+    let listed = changed .before in
+    let start = listed .before .before .before .before in
+    let n = size .memory-length .ensures in
+    run-sized _ (listed .listed .ensures .same) (changed .changed .ensures .same) (naming .wide .ensures .same) (sized .if1 .left)
+    (length-take-le _ _ (within n (start .pre .roomy)) ∙ n) (length-take-le _ _ (within n (start .pre .roomy-too)) ∙ n) (compared .compare .ensures)
 
 pub run-agrees-spec : {M : Type 1} → statement M
 run-agrees-spec =

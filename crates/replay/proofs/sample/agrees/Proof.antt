@@ -8,16 +8,31 @@ returns : tie.Need-returns
 returns c = too-short _ (c .if1 .taken)
 
 returns-2 : tie.Need-returns-2
-returns-2 c = too-large _ (c .before .before .if1 .left) (c .before .memory-length .ensures) (c .if2 .taken)
+returns-2 c =
+    let sized = c .before in
+    too-large _ (sized .before .if1 .left) (sized .memory-length .ensures) (c .if2 .taken)
 
 returns-3 : tie.Need-returns-3
-returns-3 c = as-run _ (c .before .before .before .before .before .before .before .if1 .left) (c .before .before .before .before .before .before .memory-length .ensures) (c .before .before .before .before .before .if2 .left) (c .before .before .before .if3 .taken) (c .run-agrees .ensures)
+returns-3 c =
+    let kind = c .before .before .before in
+    let fits = kind .before .before in
+    let sized = fits .before in
+    as-run _ (sized .before .if1 .left) (sized .memory-length .ensures) (fits .if2 .left) (kind .if3 .taken) (c .run-agrees .ensures)
 
 returns-4 : tie.Need-returns-4
-returns-4 c = as-window _ (c .before .before .before .before .before .before .before .before .if1 .left) (c .before .before .before .before .before .before .before .memory-length .ensures) (c .before .before .before .before .before .before .if2 .left) (c .before .before .before .before .if3 .left) (c .before .before .before .if4 .taken) (c .window-agrees .ensures)
+returns-4 c =
+    let two = c .before .before .before in
+    let kind = two .before in
+    let fits = kind .before .before in
+    let sized = fits .before in
+    as-window _ (sized .before .if1 .left) (sized .memory-length .ensures) (fits .if2 .left) (kind .if3 .left) (two .if4 .taken) (c .window-agrees .ensures)
 
 returns-5 : tie.Need-returns-5
-returns-5 c = as-none _ (c .before .before .before .before .before .if1 .left) (c .before .before .before .before .memory-length .ensures) (c .before .before .before .if2 .left) (c .before .if3 .left) (c .if4 .left)
+returns-5 c =
+    let kind = c .before in
+    let fits = kind .before .before in
+    let sized = fits .before in
+    as-none _ (sized .before .if1 .left) (sized .memory-length .ensures) (fits .if2 .left) (kind .if3 .left) (c .if4 .left)
 
 pub agrees-spec : {M : Type 1} → statement M
 agrees-spec =

@@ -5,8 +5,8 @@ use Rattle.replay.proofs.told.as_told.Tie as tie
 
 returns : tie.Need-returns
 returns c =
-    simp
-    (c .same3 .ensures, c .before .before .same2 .ensures, c .before .before .before .same .ensures, c .before .before .before .before .before .word-at .ensures)
+    let stated = c .before .before .before in
+    simp (c .same3 .ensures, c .before .before .same2 .ensures, stated .same .ensures, stated .before .before .word-at .ensures)
 
 pub as-told-spec : {M : Type 1} → statement M
 as-told-spec =

@@ -10,21 +10,47 @@ use Rattle.replay.proofs.windows.window_agrees.Statement.{statement}
 use Rattle.replay.proofs.windows.window_agrees.Tie as tie
 
 returns : tie.Need-returns
-returns c = window-missized _ (c .before .before .before .listed .ensures .0) (c .before .before .before .before .changed .ensures .0) (c .before .wide .ensures .0) (c .if1 .taken)
+returns c =
+    let naming = c .before in
+    let listed = naming .before .before in
+    window-missized _ (listed .listed .ensures .same) (listed .before .changed .ensures .same) (naming .wide .ensures .same) (c .if1 .taken)
 
 slice-aggregate-compare : tie.Need-slice-aggregate-compare
-slice-aggregate-compare c = sym (length-take-le _ _ (within (c .before .memory-length .ensures) (c .before .before .before .before .before .before .before .before .before .before .pre .1)))
+slice-aggregate-compare c =
+    let size = c .before in
+    let start = size .before .before .before .before .before .before .before .before .before in
+    sym (length-take-le _ _ (within (size .memory-length .ensures) (start .pre .roomy)))
 
 slice-aggregate-compare-2 : tie.Need-slice-aggregate-compare-2
-slice-aggregate-compare-2 c = sym (length-take-le _ _ (below (c .before .before .before .before .before .before .before .changed .ensures .1) (c .before .before .before .before .before .before .before .before .before .before .before .pre .2)))
+slice-aggregate-compare-2 c =
+    let changed = c .before .before .before .before .before .before .before in
+    let start = changed .before .before .before .before in
+    sym (length-take-le _ _ (below (changed .changed .ensures .small) (start .pre .roomy-too)))
 
 compare-requires : tie.Need-compare-requires
-compare-requires c κs = (omega (arith, c .before .before .before .if1 .left, c .before .before .before .before .wide .ensures .0, c .before .before .before .before .before .before .listed .ensures .0, c .before .before .before .before .before .before .before .changed .ensures .0), length-take-le _ _ (below (c .before .before .before .before .before .before .before .changed .ensures .1) (c .before .before .before .before .before .before .before .before .before .before .before .pre .2)) ∙ c .before .before .before .before .before .before .before .changed .ensures .0)
+compare-requires c κs =
+    let sized = c .before .before .before in
+    let naming = sized .before in
+    let listed = naming .before .before in
+    let changed = listed .before in
+    let start = changed .before .before .before .before in
+    record {
+      fits = omega (arith, sized .if1 .left, naming .wide .ensures .same, listed .listed .ensures .same, changed .changed .ensures .same);
+      marks-many = length-take-le _ _ (below (changed .changed .ensures .small) (start .pre .roomy-too)) ∙ changed .changed .ensures .same;
+    }
 
 returns-2 : tie.Need-returns-2
 returns-2 c =
-    let n = c .before .before .before .before .before .before .before .memory-length .ensures in
-    window-sized _ (c .before .before .before .before .before .before .before .before .before .before .before .listed .ensures .0) (c .before .before .before .before .before .before .before .before .before .before .before .before .changed .ensures .0) (c .before .before .before .before .before .before .before .before .before .wide .ensures .0) (c .before .before .before .before .before .before .before .before .if1 .left) (length-take-le _ _ (within n (c .before .before .before .before .before .before .before .before .before .before .before .before .before .before .before .before .pre .1)) ∙ n) (c .before .before .before .before .compare .ensures)
+    let compared = c .before .before .before .before in
+    let size = compared .before .before .before in
+    let sized = size .before in
+    let naming = sized .before in
+    let listed = naming .before .before in
+    let changed = listed .before in
+    let start = changed .before .before .before .before in
+    let n = size .memory-length .ensures in
+    window-sized _ (listed .listed .ensures .same) (changed .changed .ensures .same) (naming .wide .ensures .same) (sized .if1 .left)
+    (length-take-le _ _ (within n (start .pre .roomy)) ∙ n) (compared .compare .ensures)
 
 pub window-agrees-spec : {M : Type 1} → statement M
 window-agrees-spec =

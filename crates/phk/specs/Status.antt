@@ -1,0 +1,80 @@
+-- The tool's last word, its status, and when it is which; and what the launcher's word says.
+use mathlib.Core.Path.{_≡_}
+use mathlib.Core.Bool.{Bool, true, false, _&&_}
+use mathlib.Core.List.{List}
+use Prim.Native.Nat.{ℕ}
+use lib.Dec.{eqb, ltb}
+use lib.ListN.{length, getD}
+use Rattle.sm83.specs.Basics.{if_then_else_}
+use Rattle.outcome.specs.declared.Outcome.{Outcome}
+use Rattle.outcome.specs.declared.Outcome.the-variants.{Normal, InfiniteLoop, Halting, RunningHDMA, Stopped, RunningInterrupt, Breakpoint, Refused}
+use Rattle.outcome.specs.declared.LastOutcome.{LastOutcome}
+use Rattle.outcome.specs.declared.LastOutcome.the-variants.{NothingRun, Last}
+use Rattle.outcome.specs.Numbers.{numberOf}
+use Rattle.definition.specs.Run.{RunAnswer}
+use Rattle.commandline.specs.declared.grammar.Command.{Command}
+use Rattle.commandline.specs.declared.grammar.Command.the-variants as command
+use Rattle.commandline.specs.declared.finish.Asked.{Asked}
+use Rattle.commandline.specs.declared.finish.Asked.the-variants as asked
+use Rattle.phk.specs.declared.said.Env.{Env}
+
+abbrev pub done : ℕ
+done = 0
+
+abbrev pub refused : ℕ
+refused = 1
+
+abbrev pub badUsage : ℕ
+badUsage = 2
+
+-- the number of the refusal that ended a step or a run; 0 if none did
+abbrev pub refusalIn : Outcome → ℕ
+refusalIn Normal = 0
+refusalIn InfiniteLoop = 0
+refusalIn Halting = 0
+refusalIn RunningHDMA = 0
+refusalIn Stopped = 0
+refusalIn (RunningInterrupt i) = 0
+refusalIn (Breakpoint r) = 0
+refusalIn (Refused r) = numberOf r
+
+abbrev pub refusalOf : LastOutcome → ℕ
+refusalOf NothingRun = 0
+refusalOf (Last o) = refusalIn o
+
+-- the status that a refusal's number stands for; 0 is none
+abbrev pub statusOf : ℕ → ℕ
+statusOf n = if eqb n 0 then done else refused
+
+-- the status, unless memory could not be saved
+abbrev pub unlessLost : Bool → ℕ → ℕ
+unlessLost saved status = if saved then status else refused
+
+-- what a command answers that runs: memory as the run left it, and a status that is the run's or, where a file could not be written, a refusal
+pub record Ends (a : RunAnswer (List ℕ)) (r : ℕ) (m : List ℕ) : Type 0 where
+  pub memory : m ≡ a .memory
+  pub status : (r ≡ refused → ⊥) → r ≡ statusOf (refusalOf (a .last))
+
+-- the status of a command that reads no image
+abbrev pub Obeyed : Command → ℕ → Type 0
+Obeyed command.Screen status = Unit {0}
+Obeyed command.Run status = Unit {0}
+Obeyed command.Step status = Unit {0}
+Obeyed command.Version status = status ≡ done
+Obeyed command.Help status = status ≡ done
+
+abbrev pub Answered : Asked → ℕ → Type 0
+Answered (asked.Help c) status = status ≡ done
+Answered (asked.Obey c) status = Obeyed c status
+Answered (asked.Mistaken m) status = status ≡ badUsage
+
+-- The launcher's word: @, then c for colours, p for progress, s if the last word is wanted. Without it the first word is the command line's own.
+
+unfoldable pub stands : List ℕ → ℕ → ℕ → Bool
+stands word i b = ltb i (length word) && eqb (getD word i 0) b
+
+abbrev pub env : ℕ → Bool → Bool → Bool → Env
+env first colour progress tells = record { first = first; colour = colour; progress = progress; tells = tells }
+
+abbrev pub envIn : List ℕ → Env
+envIn word = if stands word 0 64 then env 2 (stands word 1 99) (stands word 2 112) (stands word 3 115) else env 1 false false false
