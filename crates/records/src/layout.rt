@@ -13,11 +13,11 @@ pub const KIND: usize = 2;
 
 pub const NAME_LENGTH: usize = 3;
 
-pub const MEMORY_LENGTH: usize = 4;
+pub(crate) const MEMORY_LENGTH: usize = 4;
 
-pub const LISTED: usize = 7;
+pub(crate) const LISTED: usize = 7;
 
-pub const CHANGED: usize = 9;
+pub(crate) const CHANGED: usize = 9;
 
 pub const BUDGET: usize = 11;
 

@@ -29,7 +29,7 @@ pub const OUTCOMES: usize = 1024;
 
 pub const VERDICTS: usize = 1280;
 
-pub const PLACES: usize = 1536;
+pub(crate) const PLACES: usize = 1536;
 
 // Where the parts of a state block stand.
 const PC: usize = 10;

@@ -5,7 +5,7 @@ ghost use lib.ListN.{length, replicate, set};
 ghost use Rattle.records.specs.Bytes.{patched};
 use blocks::bytes::word_at;
 
-pub fn clear(s: &mut [u8])
+pub(crate) fn clear(s: &mut [u8])
     ensures { λ _. ⌜ now (s .exit) ≡ replicate (length (now (s .entry))) 0 ⌝ }
 {
     let n = s.len();

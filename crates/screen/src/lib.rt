@@ -15,7 +15,7 @@ use sm83::Addr;
 pub mod class;
 mod targets;
 mod walk;
-pub mod window;
+mod window;
 
 const LONGEST_WINDOW: usize = 4096;
 
