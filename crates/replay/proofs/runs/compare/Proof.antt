@@ -12,9 +12,11 @@ use Rattle.replay.proofs.runs.compare.Tie as tie
 as-told-requires : tie.Need-as-told-requires
 as-told-requires c κs =
     let asked = c .before .before .before .before .before .before .before .before in
-    let copied = asked .before .before .before .before .before .before .before in
-    let patched = copied .before .before .before .before .before in
-    let start = patched .before .before .before .before .before .before .before .before .before .before .before .before .before .before .before in
+    let copying = asked .before .before .before .before .before .before .before in
+    let patched = copying .before .before .before .before .before in
+    let laid = patched .before .before .before .before .before .before .before .before in
+    let listed = laid .before .before .before in
+    let start = listed .before .before .before .before in
     omega (arith, start .pre)
 
 returns : tie.Need-returns

@@ -18,7 +18,8 @@ returns c =
 slice-aggregate-compare : tie.Need-slice-aggregate-compare
 slice-aggregate-compare c =
     let size = c .before in
-    let start = size .before .before .before .before .before .before .before .before .before in
+    let naming = size .before .before in
+    let start = naming .before .before .before .before .before .before .before in
     sym (length-take-le _ _ (within (size .memory-length .ensures) (start .pre .roomy)))
 
 slice-aggregate-compare-2 : tie.Need-slice-aggregate-compare-2
