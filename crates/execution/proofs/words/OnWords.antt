@@ -36,8 +36,8 @@ module _ (s : Cpu) (port port' : Port) (m m' : List ℕ) (r : Worked) where
   unfolding addHLMade
   hl-added v hl x h e3 e4 e5 = ending s port m m' r _ (addHLMade v) (e5 ∙ ap (λ (y : ComputedWord). worked (setF (y .flags) s) port' (y .value) Normal) e4) (λ k. h .there _ ∙ simp e3)
 
-  pub idled : (w : ℕ) → Idles port m port' m' → r ≡ worked s port' w Normal → Leads (afterIdleMade w) s port m (madeBy r) (r .cpu) (r .port) m'
-  idled w h e3 k = h .there _ ∙ simp e3
+  pub word-after-idle : (w : ℕ) → Idles port m port' m' → r ≡ worked s port' w Normal → Leads (afterIdleMade w) s port m (madeBy r) (r .cpu) (r .port) m'
+  word-after-idle w h e3 k = h .there _ ∙ simp e3
 
   pub word-pushed : (t : Cpu) (port'' : Port) (m'' : List ℕ) (v : ℕ) → Idles port m port' m' → Leads (push v) s port' m' tt t port'' m'' → r ≡ worked t port'' 0 Normal → Leads (pushMade v) s port m (madeBy r) (r .cpu) (r .port) m''
   word-pushed t port'' m'' v h l e = ending s port m m'' r _ (pushMade v) e (after s s t port port' port'' m m' m'' idle (λ _. push v >> made 0) tt _ (idled s port port' m m' h) (λ k. l (λ _ x. made 0 x k)))

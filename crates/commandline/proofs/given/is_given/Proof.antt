@@ -1,4 +1,4 @@
--- Shows is_given, by search.
+-- Shows whether something was given, by search.
 use borrow.Author.Needs.{needs}
 use Rattle.commandline.proofs.given.is_given.Statement.{statement}
 use Rattle.commandline.proofs.given.is_given.Tie as tie
