@@ -41,7 +41,7 @@ returns-2 c =
     let entries-fit = at-table .slice-known2 .given in
     let unbug = at-unbug .unbug in
     fetches-unprefixed _ _ _ _ _ _ _ _ latch (read .there) _ _ (unbug .ensures) (omega (arith, first .ok))
-    (at-test .if1 .left) (tables .table _ (omega (arith, first .ok))) (λ i. omega (arith, entries-fit i)) (omega (arith, unbug .ok)) (read .whole)
+    (at-test .if1 .left) (tables .unprefixed _ (omega (arith, first .ok))) (λ i. omega (arith, entries-fit i)) (omega (arith, unbug .ok)) (read .whole)
 
 same-length : tie.Need-same-length
 same-length c =
