@@ -14,7 +14,7 @@ use Rattle.definition.specs.Run.{stopsLast, RunAnswer, runFor}
 use Rattle.definition.proofs.Split.{followedBy, thenRun}
 use Rattle.ranges.proofs.RunPieces.{run-in-two-plain}
 use Rattle.run.specs.declared.Ran.{Ran}
-use Rattle.run.specs.Ran.{runAnswer}
+use Rattle.run.specs.Answers.{runAnswer}
 use Rattle.phk.specs.declared.far.Far.{Far}
 use Rattle.phk.specs.SoFar.{soFar, counted, begun, later, farther, fartherBy}
 use Rattle.phk.specs.Status.{refused, refusalOf, statusOf, Ends}

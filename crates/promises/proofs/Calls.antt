@@ -66,7 +66,7 @@ module _ (c : StepCall) where
   memoryLeft = now (c .left .1 .0)
 
   -- what the definition's step answers
-  abbrev defined : Bus.Ran (List ℕ) Ended
+  abbrev defined : Bus.Performed (List ℕ) Ended
   defined = stepOn plain stateGiven memoryGiven
 
   pub outcome-is : c .stepped .outcome ≡ defined .value .outcome

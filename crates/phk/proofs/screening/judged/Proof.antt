@@ -8,7 +8,7 @@ use Rattle.phk.proofs.screening.judged.Tie as tie
 
 returns : tie.Need-returns
 returns c =
-    let verdict = c .before .before .before .before .before .before .screen .ensures .0 in
+    let verdict = c .before .before .before .before .before .before .screen .ensures .verdict in
     c .status-of .ensures ∙ ap statusOf (c .before .number .ensures) ∙ ap statusOfVerdict verdict
 
 pub judged-spec : {M : Type 1} → statement M
