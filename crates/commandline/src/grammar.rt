@@ -1,5 +1,5 @@
 // The grammar: the commands, what a word may stand for, which words a command takes, and what follows an option. A new command or option
-// is one case in each of these, and a sentence in `saying`.
+// is one case in each of these, and a sentence in the program.
 ghost use mathlib.Core.Path.{_≡_};
 ghost use Rattle.commandline.specs.Grammar.{PlaceOf, plainOf, allows, kindOf, isAlone, commandNamed, optionNamed, powerNamed};
 use text::lines::number_of;

@@ -1,4 +1,4 @@
-// What a step and a run answer: how it ended, or why it was refused. The numbers are the document's; what the screen answers stands in `verdict`.
+// What a step and a run answer: how it ended, or why it was refused. The numbers are the document's; what the screen answers stands in `routine`.
 ghost use mathlib.Core.Path.{_≡_};
 ghost use Rattle.outcome.specs.Numbers.{numberOf, outcomeNumber, lastNumber};
 use crate::interrupt::InterruptType;

@@ -1,4 +1,4 @@
-// The processor's state, with the two flags that the host sets and clears, and the four states at power-on.
+// The processor's state: the four states at power-on, and a state with one part changed.
 ghost use mathlib.Core.Path.{_≡_};
 ghost use Rattle.sm83.specs.State.{onRegisters, setHalt};
 ghost use Rattle.sm83.specs.PowerOn.{cpu-zero, cpu-dmg, cpu-cgb, cpu-cgb-dmg, awake-with};
