@@ -6,8 +6,8 @@ use Rattle.text.specs.Page.{choose}
 use Rattle.commandline.specs.declared.grammar.Command.{Command}
 use Rattle.commandline.specs.declared.grammar.Part.{Part}
 use Rattle.commandline.specs.declared.grammar.Part.the-variants as part
-use Rattle.commandline.specs.declared.grammar.Plain.{Plain}
-use Rattle.commandline.specs.declared.grammar.Plain.the-variants.{Nothing, One, Two, Three}
+use Rattle.commandline.specs.declared.grammar.Turn.{Turn}
+use Rattle.commandline.specs.declared.grammar.Turn.the-variants.{Nothing, One, Two, Three}
 use Rattle.commandline.specs.declared.line.Mistake.the-variants.{NoCommand, NoValue, NotGiven, Reversed}
 use Rattle.commandline.specs.declared.line.Stage.{Stage}
 use Rattle.commandline.specs.declared.line.Stage.the-variants.{Start, Takes, Awaits, Wrong}
@@ -21,8 +21,8 @@ use Rattle.commandline.specs.Line.{saidOf}
 unfoldable pub ordered : Line → Command → Asked
 ordered l c = choose (ltb (addressOr (saidOf l part.Last) 0) (addressOr (saidOf l part.First) 0)) (Mistaken Reversed) (Obey c)
 
--- a plain word is missing
-unfoldable pub filled : Line → Command → Plain → Asked
+-- an unnamed word is missing
+unfoldable pub filled : Line → Command → Turn → Asked
 filled l c Nothing = ordered l c
 filled l c (One p) = Mistaken (NotGiven p)
 filled l c (Two p q) = Mistaken (NotGiven p)
@@ -34,8 +34,8 @@ orHelp l c asked = choose (isGiven (saidOf l part.Help)) (Help c) asked
 
 unfoldable pub finishAt : Stage → Line → Asked
 finishAt Start l = Mistaken NoCommand
-finishAt (Takes c plain) l = orHelp l c (filled l c plain)
-finishAt (Awaits c plain p) l = orHelp l c (Mistaken (NoValue p))
+finishAt (Takes c turn) l = orHelp l c (filled l c turn)
+finishAt (Awaits c turn p) l = orHelp l c (Mistaken (NoValue p))
 finishAt (Wrong m) l = Mistaken m
 
 abbrev pub finished : Line → Asked

@@ -12,8 +12,8 @@ use Rattle.commandline.specs.declared.grammar.Command.the-variants.{Scre
 use Rattle.commandline.specs.declared.grammar.Part.{Part}
 use Rattle.commandline.specs.declared.grammar.Part.the-variants as part
 use Rattle.commandline.specs.declared.grammar.Power.the-variants.{Dmg, Cgb, CgbDmg, Zero}
-use Rattle.commandline.specs.declared.grammar.Plain.{Plain}
-use Rattle.commandline.specs.declared.grammar.Plain.the-variants.{Nothing, One, Three}
+use Rattle.commandline.specs.declared.grammar.Turn.{Turn}
+use Rattle.commandline.specs.declared.grammar.Turn.the-variants.{Nothing, One, Three}
 use Rattle.commandline.specs.declared.grammar.Kind.{Kind}
 use Rattle.commandline.specs.declared.grammar.Kind.the-variants.{Alone, Path, Address, Number, Power}
 use Rattle.commandline.specs.declared.grammar.NamedCommand.{NamedCommand}
@@ -23,12 +23,12 @@ use Rattle.commandline.specs.declared.grammar.NamedOption.the-variants a
 use Rattle.commandline.specs.declared.grammar.NamedPower.{NamedPower}
 use Rattle.commandline.specs.declared.grammar.NamedPower.the-variants as power
 
-abbrev pub plainOf : Command → Plain
-plainOf Screen = Three part.Image part.First part.Last
-plainOf Run = One part.Image
-plainOf Step = One part.Image
-plainOf Version = Nothing
-plainOf Help = Nothing
+abbrev pub turnOf : Command → Turn
+turnOf Screen = Three part.Image part.First part.Last
+turnOf Run = One part.Image
+turnOf Step = One part.Image
+turnOf Version = Nothing
+turnOf Help = Nothing
 
 abbrev pub optionsOf : Command → List Part
 optionsOf Screen = part.At ∷ part.Marks ∷ part.Map ∷ part.Help ∷ []

@@ -10,8 +10,8 @@ use Rattle.text.specs.declared.number.Number.the-variants as number
 use Rattle.text.specs.Number.{numberIn}
 use Rattle.commandline.specs.declared.grammar.Command.{Command}
 use Rattle.commandline.specs.declared.grammar.Part.{Part}
-use Rattle.commandline.specs.declared.grammar.Plain.{Plain}
-use Rattle.commandline.specs.declared.grammar.Plain.the-variants.{Nothing, One, Two, Three}
+use Rattle.commandline.specs.declared.grammar.Turn.{Turn}
+use Rattle.commandline.specs.declared.grammar.Turn.the-variants.{Nothing, One, Two, Three}
 use Rattle.commandline.specs.declared.grammar.Kind.{Kind}
 use Rattle.commandline.specs.declared.grammar.Kind.the-variants as kind
 use Rattle.commandline.specs.declared.grammar.NamedCommand.{NamedCommand}
@@ -29,7 +29,7 @@ use Rattle.commandline.specs.declared.given.Given.the-variants as given
 use Rattle.commandline.specs.declared.line.Line.{Line}
 use Rattle.commandline.specs.declared.take.Read.{Read}
 use Rattle.commandline.specs.declared.take.Read.the-variants.{As, Not}
-use Rattle.commandline.specs.Grammar.{plainOf, allows, kindOf, isAlone, commandNamed, optionNamed, powerNamed}
+use Rattle.commandline.specs.Grammar.{turnOf, allows, kindOf, isAlone, commandNamed, optionNamed, powerNamed}
 use Rattle.commandline.specs.Given.{isGiven}
 use Rattle.commandline.specs.Line.{saidOf, withStage, kept}
 
@@ -66,37 +66,37 @@ keeps l after p (Not m) = wrong l m
 abbrev pub takeValue : Line → Stage → Part → List ℕ → ℕ → Line
 takeValue l after p word index = keeps l after p (valueIn (kindOf p) p word index)
 
-unfoldable pub takeOption : Line → Command → Plain → Part → ℕ → Line
-takeOption l c plain p index =
+unfoldable pub takeOption : Line → Command → Turn → Part → ℕ → Line
+takeOption l c turn p index =
     choose (not (allows c p)) (wrong l (NotHere index))
     (choose (isGiven (saidOf l p)) (wrong l (Twice index))
-    (choose (isAlone (kindOf p)) (kept l p given.Alone (Takes c plain)) (withStage l (Awaits c plain p))))
+    (choose (isAlone (kindOf p)) (kept l p given.Alone (Takes c turn)) (withStage l (Awaits c turn p))))
 
-unfoldable pub takeDashed : Line → Command → Plain → ℕ → NamedOption → Line
-takeDashed l c plain index (option.Is p) = takeOption l c plain p index
-takeDashed l c plain index option.Unknown = wrong l (UnknownOption index)
+unfoldable pub takeDashed : Line → Command → Turn → ℕ → NamedOption → Line
+takeDashed l c turn index (option.Is p) = takeOption l c turn p index
+takeDashed l c turn index option.Unknown = wrong l (UnknownOption index)
 
-unfoldable pub takePlain : Line → Command → Plain → List ℕ → ℕ → Line
-takePlain l c Nothing word index = wrong l (TooMany index)
-takePlain l c (One p) word index = takeValue l (Takes c Nothing) p word index
-takePlain l c (Two p q) word index = takeValue l (Takes c (One q)) p word index
-takePlain l c (Three p q r) word index = takeValue l (Takes c (Two q r)) p word index
+unfoldable pub takeTurn : Line → Command → Turn → List ℕ → ℕ → Line
+takeTurn l c Nothing word index = wrong l (TooMany index)
+takeTurn l c (One p) word index = takeValue l (Takes c Nothing) p word index
+takeTurn l c (Two p q) word index = takeValue l (Takes c (One q)) p word index
+takeTurn l c (Three p q r) word index = takeValue l (Takes c (Two q r)) p word index
 
 unfoldable pub takeCommand : Line → ℕ → NamedCommand → Line
-takeCommand l index (command.Is c) = withStage l (Takes c (plainOf c))
+takeCommand l index (command.Is c) = withStage l (Takes c (turnOf c))
 takeCommand l index command.Unknown = wrong l (UnknownCommand index)
 
 -- a word that begins with -
 abbrev pub isDashed : List ℕ → Bool
 isDashed word = choose (ltb 0 (length word)) (eqb (getD word 0 0) 45) false
 
-unfoldable pub takeNext : Line → Command → Plain → List ℕ → ℕ → Line
-takeNext l c plain word index = choose (isDashed word) (takeDashed l c plain index (optionNamed word)) (takePlain l c plain word index)
+unfoldable pub takeNext : Line → Command → Turn → List ℕ → ℕ → Line
+takeNext l c turn word index = choose (isDashed word) (takeDashed l c turn index (optionNamed word)) (takeTurn l c turn word index)
 
 unfoldable pub takeAt : Stage → Line → List ℕ → ℕ → Line
 takeAt Start l word index = takeCommand l index (commandNamed word)
-takeAt (Takes c plain) l word index = takeNext l c plain word index
-takeAt (Awaits c plain p) l word index = takeValue l (Takes c plain) p word index
+takeAt (Takes c turn) l word index = takeNext l c turn word index
+takeAt (Awaits c turn p) l word index = takeValue l (Takes c turn) p word index
 takeAt (Wrong m) l word index = l
 
 abbrev pub takeWord : Line → List ℕ → ℕ → Line

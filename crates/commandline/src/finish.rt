@@ -5,7 +5,7 @@ ghost use Rattle.commandline.specs.declared.line.Mistake.the-variants.{N
 ghost use Rattle.commandline.specs.Finish.{ordered, filled, orHelp, finished};
 use crate::grammar::Command;
 use crate::grammar::Part;
-use crate::grammar::Plain;
+use crate::grammar::Turn;
 use crate::line::Line;
 use crate::line::Mistake;
 use crate::line::Stage;
@@ -30,15 +30,15 @@ fn ordered(line: Line, command: Command) -> Asked
     Asked::Obey(command)
 }
 
-// A plain word may be missing.
-fn filled(line: Line, command: Command, plain: Plain) -> Asked
-    ensures { λ r. ⌜ r ≡ filled line command plain ⌝ }
+// An unnamed word may be missing.
+fn filled(line: Line, command: Command, turn: Turn) -> Asked
+    ensures { λ r. ⌜ r ≡ filled line command turn ⌝ }
 {
-    match plain {
-        Plain::Nothing => ordered(line, command),
-        Plain::One(part) => Asked::Mistaken(Mistake::NotGiven(part)),
-        Plain::Two(part, _) => Asked::Mistaken(Mistake::NotGiven(part)),
-        Plain::Three(part, _, _) => Asked::Mistaken(Mistake::NotGiven(part)),
+    match turn {
+        Turn::Nothing => ordered(line, command),
+        Turn::One(part) => Asked::Mistaken(Mistake::NotGiven(part)),
+        Turn::Two(part, _) => Asked::Mistaken(Mistake::NotGiven(part)),
+        Turn::Three(part, _, _) => Asked::Mistaken(Mistake::NotGiven(part)),
     }
 }
 
@@ -59,7 +59,7 @@ pub fn finish(line: Line) -> Asked
     let stage = line.stage;
     match stage {
         Stage::Start => Asked::Mistaken(Mistake::NoCommand),
-        Stage::Takes(command, plain) => or_help(line, command, filled(line, command, plain)),
+        Stage::Takes(command, turn) => or_help(line, command, filled(line, command, turn)),
         Stage::Awaits(command, _, part) => {
             or_help(line, command, Asked::Mistaken(Mistake::NoValue(part)))
         }

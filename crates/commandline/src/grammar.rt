@@ -1,7 +1,7 @@
 // The grammar: the commands, what a word may stand for, which words a command takes, and what follows an option. A new command or option
 // is one case in each of these, and a sentence in the program.
 ghost use mathlib.Core.Path.{_≡_};
-ghost use Rattle.commandline.specs.Grammar.{PlaceOf, plainOf, allows, kindOf, isAlone, commandNamed, optionNamed, powerNamed};
+ghost use Rattle.commandline.specs.Grammar.{PlaceOf, turnOf, allows, kindOf, isAlone, commandNamed, optionNamed, powerNamed};
 use text::lines::number_of;
 
 pub enum Command {
@@ -12,7 +12,7 @@ pub enum Command {
     Help,
 }
 
-// What a word after the command stands for: a plain word, by its turn, or an option.
+// What a word after the command stands for: an unnamed word, by its turn, or an option.
 pub enum Part {
     Image,
     First,
@@ -60,24 +60,24 @@ pub enum Power {
     Zero,
 }
 
-// Plain words, in their order.
-pub enum Plain {
+// The unnamed words that are still to come, in their order.
+pub enum Turn {
     Nothing,
     One(Part),
     Two(Part, Part),
     Three(Part, Part, Part),
 }
 
-// The plain words of a command.
-pub(crate) fn plain_of(command: Command) -> Plain
-    ensures { λ r. ⌜ r ≡ plainOf command ⌝ }
+// The unnamed words of a command.
+pub(crate) fn turn_of(command: Command) -> Turn
+    ensures { λ r. ⌜ r ≡ turnOf command ⌝ }
 {
     match command {
-        Command::Screen => Plain::Three(Part::Image, Part::First, Part::Last),
-        Command::Run => Plain::One(Part::Image),
-        Command::Step => Plain::One(Part::Image),
-        Command::Version => Plain::Nothing,
-        Command::Help => Plain::Nothing,
+        Command::Screen => Turn::Three(Part::Image, Part::First, Part::Last),
+        Command::Run => Turn::One(Part::Image),
+        Command::Step => Turn::One(Part::Image),
+        Command::Version => Turn::Nothing,
+        Command::Help => Turn::Nothing,
     }
 }
 
@@ -125,7 +125,7 @@ pub enum Kind {
     Power,
 }
 
-// Which value a plain word is, and which comes after an option.
+// Which value an unnamed word is, and which comes after an option.
 pub(crate) fn kind_of(part: Part) -> Kind
     ensures { λ r. ⌜ r ≡ kindOf part ⌝ }
 {

@@ -11,8 +11,8 @@ use crate::given::word_or;
 use crate::grammar::Command;
 use crate::grammar::PARTS;
 use crate::grammar::Part;
-use crate::grammar::Plain;
 use crate::grammar::Power;
+use crate::grammar::Turn;
 use crate::grammar::place;
 use text::number::Fault;
 
@@ -32,12 +32,12 @@ pub enum Mistake {
     AddressTooLarge(Part, usize),
 }
 
-// Which word may come next: the command; an option, or the first of the plain words that are left; the value of an option. After a
+// Which word may come next: the command; an option, or the first of the unnamed words that are left; the value of an option. After a
 // mistake none does.
 pub enum Stage {
     Start,
-    Takes(Command, Plain),
-    Awaits(Command, Plain, Part),
+    Takes(Command, Turn),
+    Awaits(Command, Turn, Part),
     Wrong(Mistake),
 }
 

@@ -2,7 +2,7 @@
 ghost use mathlib.Core.Path.{_≡_};
 ghost use Rattle.text.specs.Number.{numberIn};
 ghost use Rattle.commandline.specs.Grammar.{kindOf, commandNamed, optionNamed, powerNamed};
-ghost use Rattle.commandline.specs.Take.{asNumber, inRange, asAddress, asPower, valueIn, takeValue, takeOption, takeDashed, takePlain, takeCommand, isDashed, takeNext, takeWord};
+ghost use Rattle.commandline.specs.Take.{asNumber, inRange, asAddress, asPower, valueIn, takeValue, takeOption, takeDashed, takeTurn, takeCommand, isDashed, takeNext, takeWord};
 use crate::given::Given;
 use crate::grammar::Command;
 use crate::grammar::Kind;
@@ -10,14 +10,14 @@ use crate::grammar::NamedCommand;
 use crate::grammar::NamedOption;
 use crate::grammar::NamedPower;
 use crate::grammar::Part;
-use crate::grammar::Plain;
+use crate::grammar::Turn;
 use crate::grammar::allows;
 use crate::grammar::command_named;
 use crate::grammar::is_alone;
 use crate::grammar::kind_of;
 use crate::grammar::option_named;
-use crate::grammar::plain_of;
 use crate::grammar::power_named;
+use crate::grammar::turn_of;
 use crate::line::Line;
 use crate::line::Mistake;
 use crate::line::Stage;
@@ -90,8 +90,8 @@ fn take_value(line: Line, after: Stage, part: Part, word: &[u8], index: usize) -
     }
 }
 
-fn take_option(line: Line, command: Command, plain: Plain, part: Part, index: usize) -> Line
-    ensures { λ r. ⌜ r ≡ takeOption line command plain part index ⌝ }
+fn take_option(line: Line, command: Command, turn: Turn, part: Part, index: usize) -> Line
+    ensures { λ r. ⌜ r ≡ takeOption line command turn part index ⌝ }
 {
     let allowed = allows(command, part);
     let no_place = !allowed;
@@ -104,36 +104,30 @@ fn take_option(line: Line, command: Command, plain: Plain, part: Part, index: us
     }
     let alone = is_alone(kind_of(part));
     if alone {
-        return line.kept(part, Given::Alone, Stage::Takes(command, plain));
+        return line.kept(part, Given::Alone, Stage::Takes(command, turn));
     }
-    line.with_stage(Stage::Awaits(command, plain, part))
+    line.with_stage(Stage::Awaits(command, turn, part))
 }
 
 // A word that begins with -.
-fn take_dashed(line: Line, command: Command, plain: Plain, word: &[u8], index: usize) -> Line
-    ensures { λ r. ⌜ r ≡ takeDashed line command plain index (optionNamed (now (word .entry))) ⌝ }
+fn take_dashed(line: Line, command: Command, turn: Turn, word: &[u8], index: usize) -> Line
+    ensures { λ r. ⌜ r ≡ takeDashed line command turn index (optionNamed (now (word .entry))) ⌝ }
 {
     match option_named(word) {
-        NamedOption::Is(part) => take_option(line, command, plain, part, index),
+        NamedOption::Is(part) => take_option(line, command, turn, part, index),
         NamedOption::Unknown => line.with_stage(Stage::Wrong(Mistake::UnknownOption(index))),
     }
 }
 
-fn take_plain(line: Line, command: Command, plain: Plain, word: &[u8], index: usize) -> Line
-    ensures { λ r. ⌜ r ≡ takePlain line command plain (now (word .entry)) index ⌝ }
+fn take_turn(line: Line, command: Command, turn: Turn, word: &[u8], index: usize) -> Line
+    ensures { λ r. ⌜ r ≡ takeTurn line command turn (now (word .entry)) index ⌝ }
 {
-    match plain {
-        Plain::Nothing => line.with_stage(Stage::Wrong(Mistake::TooMany(index))),
-        Plain::One(a) => take_value(line, Stage::Takes(command, Plain::Nothing), a, word, index),
-        Plain::Two(a, b) => take_value(line, Stage::Takes(command, Plain::One(b)), a, word, index),
-        Plain::Three(a, b, c) => {
-            take_value(
-                line,
-                Stage::Takes(command, Plain::Two(b, c)),
-                a,
-                word,
-                index,
-            )
+    match turn {
+        Turn::Nothing => line.with_stage(Stage::Wrong(Mistake::TooMany(index))),
+        Turn::One(a) => take_value(line, Stage::Takes(command, Turn::Nothing), a, word, index),
+        Turn::Two(a, b) => take_value(line, Stage::Takes(command, Turn::One(b)), a, word, index),
+        Turn::Three(a, b, c) => {
+            take_value(line, Stage::Takes(command, Turn::Two(b, c)), a, word, index)
         }
     }
 }
@@ -142,7 +136,7 @@ fn take_command(line: Line, word: &[u8], index: usize) -> Line
     ensures { λ r. ⌜ r ≡ takeCommand line index (commandNamed (now (word .entry))) ⌝ }
 {
     match command_named(word) {
-        NamedCommand::Is(command) => line.with_stage(Stage::Takes(command, plain_of(command))),
+        NamedCommand::Is(command) => line.with_stage(Stage::Takes(command, turn_of(command))),
         NamedCommand::Unknown => line.with_stage(Stage::Wrong(Mistake::UnknownCommand(index))),
     }
 }
@@ -154,15 +148,15 @@ fn is_dashed(word: &[u8]) -> bool
     if some { word[0] == b'-' } else { false }
 }
 
-// An option or a plain word.
-fn take_next(line: Line, command: Command, plain: Plain, word: &[u8], index: usize) -> Line
-    ensures { λ r. ⌜ r ≡ takeNext line command plain (now (word .entry)) index ⌝ }
+// An option or an unnamed word.
+fn take_next(line: Line, command: Command, turn: Turn, word: &[u8], index: usize) -> Line
+    ensures { λ r. ⌜ r ≡ takeNext line command turn (now (word .entry)) index ⌝ }
 {
     let dashed = is_dashed(word);
     if dashed {
-        return take_dashed(line, command, plain, word, index);
+        return take_dashed(line, command, turn, word, index);
     }
-    take_plain(line, command, plain, word, index)
+    take_turn(line, command, turn, word, index)
 }
 
 pub fn take(line: Line, word: &[u8], index: usize) -> Line
@@ -171,9 +165,9 @@ pub fn take(line: Line, word: &[u8], index: usize) -> Line
     let stage = line.stage;
     match stage {
         Stage::Start => take_command(line, word, index),
-        Stage::Takes(command, plain) => take_next(line, command, plain, word, index),
-        Stage::Awaits(command, plain, part) => {
-            take_value(line, Stage::Takes(command, plain), part, word, index)
+        Stage::Takes(command, turn) => take_next(line, command, turn, word, index),
+        Stage::Awaits(command, turn, part) => {
+            take_value(line, Stage::Takes(command, turn), part, word, index)
         }
         Stage::Wrong(_) => line,
     }

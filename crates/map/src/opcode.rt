@@ -10,7 +10,7 @@ fn jumps(class: Class) -> bool
     ensures { λ r. ⌜ r ≡ goesSomewhere (flowOf class 0 0 0) ⌝ }
 {
     match class {
-        Class::Plain => false,
+        Class::Basic => false,
         Class::Barred => false,
         Class::Return => false,
         Class::ReturnIf => false,

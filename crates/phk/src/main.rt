@@ -98,7 +98,7 @@ fn obey(command: Command, line: Line, env: Env) -> u8
     }
 }
 
-fn answer(line: Line, env: Env) -> u8
+fn carried_out(line: Line, env: Env) -> u8
     ensures { λ r. ⌜ Answered (finished line) r ⌝ }
 {
     match finish(line) {
@@ -110,6 +110,6 @@ fn answer(line: Line, env: Env) -> u8
 
 fn main() {
     let env = said::told();
-    let status = answer(read_words(env.first), env);
+    let status = carried_out(read_words(env.first), env);
     said::last_word(env, status);
 }

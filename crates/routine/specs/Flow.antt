@@ -8,7 +8,7 @@ use Rattle.opcodes.specs.Arithmetic.{holds}
 use Rattle.opcodes.specs.Instruction.{Jump, JP-n16, JP-HL, JR-e8, CALL-n16, RET, RETI, JP-cc-n16, JR-cc-e8, CALL-cc-n16, RET-cc, RST-vec}
 use Rattle.opcodes.specs.Instruction.{Instruction, does, goes, CB-prefix, HALT, STOP, EI, LD-B-B, ILLEGAL, decode, operands}
 use Rattle.routine.specs.declared.Class.{Class}
-use Rattle.routine.specs.declared.Class.the-variants.{Plain, Barred, Return, ReturnIf, Absolute, AbsoluteIf, Relative, RelativeIf, Call, CallIf}
+use Rattle.routine.specs.declared.Class.the-variants.{Basic, Barred, Return, ReturnIf, Absolute, AbsoluteIf, Relative, RelativeIf, Call, CallIf}
 
 -- "Length and class are decided by ranges of the opcode byte": the class of an instruction
 abbrev pub classOfJump : Jump → Class
@@ -25,13 +25,13 @@ classOfJump (RET-cc c) = ReturnIf
 classOfJump (RST-vec v) = Barred
 
 abbrev pub classOf : Instruction → Class
-classOf (does w) = Plain
+classOf (does w) = Basic
 classOf (goes j) = classOfJump j
-classOf CB-prefix = Plain
+classOf CB-prefix = Basic
 classOf HALT = Barred
 classOf STOP = Barred
 classOf EI = Barred
-classOf LD-B-B = Plain
+classOf LD-B-B = Basic
 classOf ILLEGAL = Barred
 
 abbrev pub instructionAt : List ℕ → ℕ → Instruction
@@ -46,7 +46,7 @@ past m a = a + 1 + operands (instructionAt m a)
 
 -- "Forbidden: the eleven of refusal 3, STOP, HALT, EI, RETI, JP HL, every CALL and RST." (02, request 7 lets CALL through: the last two lines.)
 abbrev pub isForbidden : Class → Bool
-isForbidden Plain = false
+isForbidden Basic = false
 isForbidden Barred = true
 isForbidden Return = false
 isForbidden ReturnIf = false
@@ -59,7 +59,7 @@ isForbidden CallIf = true
 
 -- "the last instruction must be an unconditional JP, JR or RET"
 abbrev pub endsRoutine : Class → Bool
-endsRoutine Plain = false
+endsRoutine Basic = false
 endsRoutine Barred = false
 endsRoutine Return = true
 endsRoutine ReturnIf = false
@@ -77,7 +77,7 @@ pub data Flow : Type 0 where
 
 -- from a, with the two bytes after the opcode. "A JR target counts from the byte after the JR, modulo 65,536."
 abbrev pub flowOf : Class → ℕ → ℕ → ℕ → Flow
-flowOf Plain a x y = Next
+flowOf Basic a x y = Next
 flowOf Barred a x y = Nowhere
 flowOf Return a x y = Leaves
 flowOf ReturnIf a x y = LeavesOrNext

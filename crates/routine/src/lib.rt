@@ -5,7 +5,7 @@ use sm83::Addr;
 
 // Where control may go from an instruction: on, nowhere that any screen allows, back to the caller, to an address that it holds or counts from, into a routine; `If`: or on.
 pub enum Class {
-    Plain,
+    Basic,
     Barred,
     Return,
     ReturnIf,

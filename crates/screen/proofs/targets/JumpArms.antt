@@ -11,7 +11,7 @@ use denote.Enum.Declared.{tagOf}
 use Rattle.sm83.specs.Basics.{next}
 use Rattle.definition.specs.Bus.{byteAt}
 use Rattle.routine.specs.declared.Class.{Class}
-use Rattle.routine.specs.declared.Class.the-variants.{Plain, Barred, Return, ReturnIf, Absolute, AbsoluteIf, Relative, RelativeIf, Call, CallIf}
+use Rattle.routine.specs.declared.Class.the-variants.{Basic, Barred, Return, ReturnIf, Absolute, AbsoluteIf, Relative, RelativeIf, Call, CallIf}
 use Rattle.routine.specs.Flow.{instructionAt, flowOf, flowAt, jumpsWhere}
 use Rattle.routine.proofs.Class.{the-type}
 use Rattle.screen.specs.declared.class.Shape.{Shape}
@@ -20,10 +20,10 @@ use Rattle.screen.proofs.class.Arms.{Right, by-number}
 
 -- a match on the class tells the classes apart by number
 abbrev pub classAt : ℕ → Class
-classAt t = getD (Plain ∷ Barred ∷ Return ∷ ReturnIf ∷ Absolute ∷ AbsoluteIf ∷ Relative ∷ RelativeIf ∷ Call ∷ []) t CallIf
+classAt t = getD (Basic ∷ Barred ∷ Return ∷ ReturnIf ∷ Absolute ∷ AbsoluteIf ∷ Relative ∷ RelativeIf ∷ Call ∷ []) t CallIf
 
 numbered : (k : Class) → (tagOf the-type k < 10) × (classAt (tagOf the-type k) ≡ k)
-numbered Plain = (lit< tt, refl)
+numbered Basic = (lit< tt, refl)
 numbered Barred = (lit< tt, refl)
 numbered Return = (lit< tt, refl)
 numbered ReturnIf = (lit< tt, refl)

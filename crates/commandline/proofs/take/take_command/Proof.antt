@@ -7,10 +7,10 @@ use Rattle.commandline.proofs.take.take_command.Tie as tie
 returns : tie.Need-returns
 unfolding takeCommand
 returns c =
-    let plain = c .before .plain-of .ensures in
+    let turn = c .before .turn-of .ensures in
     let in-arm = c .before .before .before in
     let named = in-arm .before .before .command-named .ensures in
-    simp (c .with-stage .ensures, ← plain, in-arm .command .given .1, ← named)
+    simp (c .with-stage .ensures, ← turn, in-arm .command .given .1, ← named)
 
 returns-2 : tie.Need-returns-2
 unfolding takeCommand

@@ -2,7 +2,7 @@
 use mathlib.Core.Path.{_≡_, sym, ap}
 use borrow.Author.Needs.{needs}
 use Rattle.routine.specs.declared.Class.{Class}
-use Rattle.routine.specs.declared.Class.the-variants.{Plain, Barred, Return, ReturnIf, Absolute, AbsoluteIf, Relative, RelativeIf, Call, CallIf}
+use Rattle.routine.specs.declared.Class.the-variants.{Basic, Barred, Return, ReturnIf, Absolute, AbsoluteIf, Relative, RelativeIf, Call, CallIf}
 use Rattle.routine.specs.Flow.{flowOf}
 use Rattle.map.specs.Opcode.{goesSomewhere}
 use Rattle.map.proofs.opcode.jumps.Statement.{statement}
@@ -25,7 +25,7 @@ jumps-spec =
     (λ c. search needs)
     (λ c. search needs)
     (λ c. search needs)
-    (λ c. of Plain (c .enum-told .given .1))
+    (λ c. of Basic (c .enum-told .given .1))
     (λ c. of Barred (c .enum-told2 .given .1))
     (λ c. of Return (c .enum-told3 .given .1))
     (λ c. of ReturnIf (c .enum-told4 .given .1))

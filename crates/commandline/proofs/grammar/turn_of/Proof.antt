@@ -1,10 +1,10 @@
 -- Each command, by its constructor.
 use borrow.Author.Needs.{needs}
-use Rattle.commandline.proofs.grammar.plain_of.Statement.{statement}
-use Rattle.commandline.proofs.grammar.plain_of.Tie as tie
+use Rattle.commandline.proofs.grammar.turn_of.Statement.{statement}
+use Rattle.commandline.proofs.grammar.turn_of.Tie as tie
 
-pub plain-of-spec : {M : Type 1} → statement M
-plain-of-spec =
+pub turn-of-spec : {M : Type 1} → statement M
+turn-of-spec =
     tie.close
     (tie.spec
     (λ c. search needs) (λ c. search needs) (λ c. search needs) (λ c. search needs) (λ c. search needs)

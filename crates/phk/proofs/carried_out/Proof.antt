@@ -3,8 +3,8 @@ use mathlib.Core.Path.{subst}
 use borrow.Author.Needs.{needs}
 use Rattle.commandline.specs.declared.finish.Asked.{Asked}
 use Rattle.phk.specs.Status.{Answered}
-use Rattle.phk.proofs.answer.Statement.{statement}
-use Rattle.phk.proofs.answer.Tie as tie
+use Rattle.phk.proofs.carried_out.Statement.{statement}
+use Rattle.phk.proofs.carried_out.Tie as tie
 
 help : tie.Need-returns
 help c =
@@ -21,8 +21,8 @@ wrong c =
     let asked = c .before .before in
     subst (λ (a : Asked). Answered a (c .mistaken .result)) (asked .before .before .finish .ensures) (simp (asked .mistake .given .1) (c .mistaken .ensures))
 
-pub answer-spec : {M : Type 1} → statement M
-answer-spec =
+pub carried-out-spec : {M : Type 1} → statement M
+carried-out-spec =
     tie.close
     (tie.spec
     (λ c κs. search needs) (λ c. search needs) (λ c κs. search needs) (λ c. search needs) (λ c κs. search needs) (λ c. search needs)
