@@ -7,7 +7,7 @@ use lib.ListN.{set, length}
 use Rattle.sm83.specs.PowerOn.{cpu-zero}
 use Rattle.outcome.specs.declared.interrupt.NextInterrupt.{NextInterrupt}
 use Rattle.outcome.specs.declared.Outcome.the-variants.{Normal}
-use Rattle.definition.specs.Bus.{Kind, Stack, Ask, answer, byteAt, pending, taken}
+use Rattle.definition.specs.Bus.{Kind, Stack, Ask, leaf, byteAt, pending, taken}
 use Rattle.definition.specs.Step.{Ended}
 use Rattle.bus.specs.declared.Port.{Port}
 use Rattle.bus.specs.World.{World, Led, world, counted, leads, peeked, afterWrite, afterTake, accessing, Reads, Writes, Idles, Peeks, Takes}
@@ -32,7 +32,7 @@ has-peeked m m' i e1 e2 whole = record { there = λ port rest. simp (e1, e2); wh
 -- what a write leaves, for the take that follows it in the same access
 left-by : (k : Kind) (a v : ℕ) (port port' : Port) (m m' : List ℕ) → Writes k a v port m port' m' → afterWrite k (world port m) a v ≡ world port' m'
 unfolding leads
-left-by k a v port port' m m' h = ap (λ (l : Led Ended). l .left) (h .there (answer (record { outcome = Normal; cpu = cpu-zero false })))
+left-by k a v port port' m m' h = ap (λ (l : Led Ended). l .left) (h .there (leaf (record { outcome = Normal; cpu = cpu-zero false })))
 
 takes : (port : Port) (m m' : List ℕ) (i : NextInterrupt) (rest : NextInterrupt → Ask Ended) → i ≡ pending m → m' ≡ taken m → leads (rest (peeked (world port m))) (afterTake (world port m)) ≡ leads (rest i) (world port m')
 unfolding accessing

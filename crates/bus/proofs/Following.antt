@@ -5,7 +5,7 @@ use Prim.Native.Nat.{ℕ, suc, _+_, _%_, _<_}
 use native.Mathlib.Omega.{arith}
 use lib.ListN.{set}
 use Rattle.outcome.specs.declared.interrupt.NextInterrupt.{NextInterrupt}
-use Rattle.definition.specs.Bus.{Kind, Stack, Ask, answer, read, write, idle, peek, writeAndTake, Bus, Performed, runOn, mcycles, byteAt, pending, taken}
+use Rattle.definition.specs.Bus.{Kind, Stack, Ask, leaf, read, write, idle, peek, writeAndTake, Bus, Performed, runOn, mcycles, byteAt, pending, taken}
 use Rattle.bus.specs.World.{World, Led, shown, afterRead, afterWrite, afterIdle, peeked, afterTake, accessing, leads, behind}
 
 -- R says which memories belong together
@@ -58,7 +58,7 @@ module _ {U : Type 0} (b : Bus U) (R : World → U → Type 0) where
 
     pub follow : {A : Type 0} (p : Ask A) (w : World) (v : U) → cycles w < 4294967296 → R w v → Followed (leads p w) w (runOn b p v)
     unfolding leads runOn
-    follow (answer a) w v s r = record { value = refl; memory = r; counts = omega arith }
+    follow (leaf a) w v s r = record { value = refl; memory = r; counts = omega arith }
     follow (read k a g) w v s r =
         let q = follow (g (shown w a)) (afterRead k w a) (b .afterRead k v a) (small (cycles w) _ (one-read k w a)) (f .by-read k w v a r) in
         subst (λ (x : ℕ). Followed (leads (g (shown w a)) (afterRead k w a)) w (runOn b (read k a (λ _. g x)) v)) (f .shows w v a r)
@@ -81,7 +81,7 @@ module _ {U : Type 0} (b : Bus U) (R : World → U → Type 0) where
         (record { value = q .value; memory = q .memory; counts = one-more (cycles w) _ _ _ once (q .counts) })
 
     -- where a tree is known to lead
-    pub arrive : {A : Type 0} (p : Ask A) (w w' : World) (v : U) (a : A) → cycles w < 4294967296 → R w v → leads p w ≡ leads (answer a) w' → Followed (record { value = a; left = w' }) w (runOn b p v)
+    pub arrive : {A : Type 0} (p : Ask A) (w w' : World) (v : U) (a : A) → cycles w < 4294967296 → R w v → leads p w ≡ leads (leaf a) w' → Followed (record { value = a; left = w' }) w (runOn b p v)
     unfolding leads
     arrive p w w' v a s r e = subst (λ (l : Led _). Followed l w (runOn b p v)) e (follow p w v s r)
 

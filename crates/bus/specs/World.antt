@@ -5,7 +5,7 @@ use Prim.Native.Nat.{ℕ, _+_, _%_}
 use lib.ListN.{set, length}
 use Rattle.sm83.specs.declared.MCycles.{MCycles}
 use Rattle.outcome.specs.declared.interrupt.NextInterrupt.{NextInterrupt}
-use Rattle.definition.specs.Bus.{Bus, Kind, Fetch, Operand, Stack, Ask, answer, read, write, idle, peek, writeAndTake, byteAt, pending, taken, plain}
+use Rattle.definition.specs.Bus.{Bus, Kind, Fetch, Operand, Stack, Ask, leaf, read, write, idle, peek, writeAndTake, byteAt, pending, taken, plain}
 use Rattle.definition.specs.Step.{Ended}
 use Rattle.bus.specs.declared.AccessKind.{AccessKind}
 use Rattle.bus.specs.declared.AccessKind.the-variants as said
@@ -59,7 +59,7 @@ pub record Led (A : Type 0) : Type 0 where
   pub left : World
 
 unfoldable pub leads : {A : Type 0} → Ask A → World → Led A
-leads (answer a) w = record { value = a; left = w }
+leads (leaf a) w = record { value = a; left = w }
 leads (read k a f) w = leads (f (shown w a)) (afterRead k w a)
 leads (write k a v p) w = leads p (afterWrite k w a v)
 leads (idle p) w = leads p (afterIdle w)

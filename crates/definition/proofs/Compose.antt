@@ -3,11 +3,11 @@ use mathlib.Core.Path.{_≡_, refl, ap}
 use mathlib.Core.List.{List, _++_}
 use Prim.Native.Nat.{_+_}
 use lib.ListN.{length-append}
-use Rattle.definition.specs.Bus.{Ask, answer, read, write, idle, peek, writeAndTake, Access, Read, Write, Idle, WriteAndTake, Stack, Bus, Performed, logged, runOn, mcycles}
+use Rattle.definition.specs.Bus.{Ask, leaf, read, write, idle, peek, writeAndTake, Access, Read, Write, Idle, WriteAndTake, Stack, Bus, Performed, logged, runOn, mcycles}
 
 -- a tree, then the tree that its answer chooses
 unfoldable pub bind : {A B : Type 0} → Ask A → (A → Ask B) → Ask B
-bind (answer a) f = f a
+bind (leaf a) f = f a
 bind (read k a g) f = read k a (λ v. bind (g v) f)
 bind (write k a v p) f = write k a v (bind p f)
 bind (idle p) f = idle (bind p f)
@@ -20,7 +20,7 @@ after l r = record { value = r .value; memory = r .memory; accesses = l ++ r .ac
 
 pub run-bind : {W A B : Type 0} (b : Bus W) (p : Ask A) (f : A → Ask B) (m : W) → runOn b (bind p f) m ≡ after (runOn b p m .accesses) (runOn b (f (runOn b p m .value)) (runOn b p m .memory))
 unfolding runOn bind
-run-bind b (answer a) f m = refl
+run-bind b (leaf a) f m = refl
 run-bind b (read k a g) f m = ap (logged (Read k a)) (run-bind b (g (b .sees m a)) f (b .afterRead k m a))
 run-bind b (write k a v p) f m = ap (logged (Write k a v)) (run-bind b p f (b .afterWrite k m a v))
 run-bind b (idle p) f m = ap (logged Idle) (run-bind b p f (b .afterIdle m))

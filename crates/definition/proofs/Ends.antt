@@ -8,14 +8,14 @@ use Rattle.sm83.specs.declared.Cpu.{Cpu}
 use Rattle.outcome.specs.declared.interrupt.NextInterrupt.{NextInterrupt}
 use Rattle.outcome.specs.declared.Outcome.the-variants.{Normal}
 use Rattle.sm83.specs.Basics.{if_then_else_}
-use Rattle.definition.specs.Bus.{Operand, Stack, Ask, answer, read, write, idle, peek, writeAndTake, Access, Read, Write, Idle, WriteAndTake, Bus, runOn}
+use Rattle.definition.specs.Bus.{Operand, Stack, Ask, leaf, read, write, idle, peek, writeAndTake, Access, Read, Write, Idle, WriteAndTake, Bus, runOn}
 use Rattle.sm83.specs.State.{pairHL, pc, flags}
 use Rattle.opcodes.specs.Instruction.{Reg8, rB, rC, rD, rE, rH, rL, [HL], rA}
 use Rattle.definition.specs.Execution.{Does, get8, put8}
 use Rattle.definition.specs.Step.{Ended, ended}
 
 abbrev pub Ends : (List Access → Ended → Type 0) → Ask Ended → Type 0
-Ends P (answer e) = P [] e
+Ends P (leaf e) = P [] e
 Ends P (read k a f) = (v : ℕ) → Ends (λ l e. P (Read k a ∷ l) e) (f v)
 Ends P (write k a v p) = Ends (λ l e. P (Write k a v ∷ l) e) p
 Ends P (idle p) = Ends (λ l e. P (Idle ∷ l) e) p
@@ -24,7 +24,7 @@ Ends P (writeAndTake a v f) = (i : NextInterrupt) → Ends (λ l e. P (WriteAndT
 
 pub ends-on : {W : Type 0} (b : Bus W) (P : List Access → Ended → Type 0) (p : Ask Ended) → Ends P p → (m : W) → P (runOn b p m .accesses) (runOn b p m .value)
 unfolding runOn
-ends-on b P (answer e) h m = h
+ends-on b P (leaf e) h m = h
 ends-on b P (read k a f) h m = ends-on b (λ l e. P (Read k a ∷ l) e) (f (b .sees m a)) (h (b .sees m a)) (b .afterRead k m a)
 ends-on b P (write k a v p) h m = ends-on b (λ l e. P (Write k a v ∷ l) e) p h (b .afterWrite k m a v)
 ends-on b P (idle p) h m = ends-on b (λ l e. P (Idle ∷ l) e) p h (b .afterIdle m)

@@ -9,7 +9,7 @@ use Rattle.outcome.specs.declared.Outcome.the-variants.{Normal, InfiniteLoop, H
 use Rattle.sm83.specs.declared.HaltMode.the-variants.{HaltRunInterrupt, HaltNoRunInterrupt, HaltBug}
 use Rattle.sm83.specs.Basics.{if_then_else_, word, next, offset}
 use Rattle.definition.specs.Bus as bus
-use Rattle.definition.specs.Bus.{Ask, answer, read, write, idle, writeAndTake, Stack, Bus, runOn}
+use Rattle.definition.specs.Bus.{Ask, leaf, read, write, idle, writeAndTake, Stack, Bus, runOn}
 use Rattle.outcome.specs.declared.interrupt.NextInterrupt.{NextInterrupt}
 use Rattle.outcome.specs.Interrupts.{isPending}
 use Rattle.opcodes.specs.Arithmetic.{holds}
@@ -25,7 +25,7 @@ use Rattle.opcodes.proofs.Illegal.{isIllegal}
 
 -- no end is a refusal
 abbrev pub Never : Ask Ended → Type 0
-Never (answer e) = T (not (isRefused (e .outcome)))
+Never (leaf e) = T (not (isRefused (e .outcome)))
 Never (read k a f) = (v : ℕ) → Never (f v)
 Never (write k a v p) = Never p
 Never (idle p) = Never p
@@ -34,7 +34,7 @@ Never (writeAndTake a v f) = (i : NextInterrupt) → Never (f i)
 
 pub never-run : {W : Type 0} (b : Bus W) (p : Ask Ended) (m : W) → Never p → T (not (isRefused (runOn b p m .value .outcome)))
 unfolding runOn
-never-run b (answer e) m h = h
+never-run b (leaf e) m h = h
 never-run b (read k a f) m h = never-run b (f (b .sees m a)) (b .afterRead k m a) (h (b .sees m a))
 never-run b (write k a v p) m h = never-run b p (b .afterWrite k m a v) h
 never-run b (idle p) m h = never-run b p (b .afterIdle m) h
@@ -45,7 +45,7 @@ never-run b (writeAndTake a v f) m h =
 -- a part does not end the step: what comes after it does
 never-then : {A : Type 0} (p : Ask A) (f : A → Ask Ended) → ((a : A) → Never (f a)) → Never (bind p f)
 unfolding bind
-never-then (answer a) f h = h a
+never-then (leaf a) f h = h a
 never-then (read k a g) f h = λ v. never-then (g v) f h
 never-then (write k a v p) f h = never-then p f h
 never-then (idle p) f h = never-then p f h

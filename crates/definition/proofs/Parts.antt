@@ -3,7 +3,7 @@ use mathlib.Core.Path.{_≡_, refl, ap, _∙_}
 use Prim.Native.Nat.{ℕ}
 use Rattle.sm83.specs.declared.Cpu.{Cpu}
 use Rattle.sm83.specs.Basics.{cleared, raised, next}
-use Rattle.definition.specs.Bus.{Ask, answer, read, Operand}
+use Rattle.definition.specs.Bus.{Ask, leaf, read, Operand}
 use Rattle.sm83.specs.State.{pc, flags, setPC, setF}
 use Rattle.opcodes.specs.Arithmetic.{shiftOp, increment, decrement}
 use Rattle.opcodes.specs.Instruction.{Reg8, rB, rC, rD, rE, rH, rL, [HL], rA, Prefixed, SHIFT-r8, BIT-u3-r8, RES-u3-r8, SET-u3-r8}
@@ -17,7 +17,7 @@ pub record Left (A : Type 0) : Type 0 where
   pub cpu : Cpu
 
 abbrev pub left : {A : Type 0} → A → Cpu → Ask (Left A)
-left a s = answer (record { value = a; cpu = s })
+left a s = leaf (record { value = a; cpu = s })
 
 abbrev pub going : {A R : Type 0} → (A → Cpu → Ask R) → Left A → Ask R
 going k x = k (x .value) (x .cpu)

@@ -15,10 +15,10 @@ use Rattle.outcome.specs.Interrupts.{interruptNumber}
 pub data Kind : Type 0 where
   Fetch Operand Stack : Kind
 
--- An answer, or one access and what follows on what memory says to it. Peeking costs nothing and is no access.
+-- A leaf, which asks nothing more, or one access and what follows on what memory says to it. Peeking costs nothing and is no access.
 -- The push that takes an interrupt is one access: the write of PC's high byte, then the take.
 pub data Ask (A : Type 0) : Type 0 where
-  answer : A → Ask A
+  leaf : A → Ask A
   read : Kind → ℕ → (ℕ → Ask A) → Ask A
   write : Kind → ℕ → ℕ → Ask A → Ask A
   idle : Ask A → Ask A
@@ -54,7 +54,7 @@ logged a r = record { value = r .value; memory = r .memory; accesses = a ∷ r .
 
 -- The tree on any kind of memory.
 unfoldable pub runOn : {W A : Type 0} → Bus W → Ask A → W → Performed W A
-runOn b (answer a) m = record { value = a; memory = m; accesses = [] }
+runOn b (leaf a) m = record { value = a; memory = m; accesses = [] }
 runOn b (read k a f) m = logged (Read k a) (runOn b (f (b .sees m a)) (b .afterRead k m a))
 runOn b (write k a v p) m = logged (Write k a v) (runOn b p (b .afterWrite k m a v))
 runOn b (idle p) m = logged Idle (runOn b p (b .afterIdle m))

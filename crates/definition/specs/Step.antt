@@ -16,7 +16,7 @@ use Rattle.outcome.specs.declared.Refusal.the-variants.{MemoryLength, LowBitsOf
 use Rattle.outcome.specs.declared.Outcome.{Outcome}
 use Rattle.outcome.specs.declared.Outcome.the-variants.{Normal, Halting, RunningHDMA, Stopped, RunningInterrupt, Refused}
 use Rattle.sm83.specs.Basics.{if_then_else_, highByte, lowByte, next, back}
-use Rattle.definition.specs.Bus.{Fetch, Stack, Ask, answer, writeAndTake, Bus, Performed, runOn}
+use Rattle.definition.specs.Bus.{Fetch, Stack, Ask, leaf, writeAndTake, Bus, Performed, runOn}
 use Rattle.sm83.specs.State.{pc, sp, flags, setPC, setSP, setIme, setLatch, setHalt}
 use Rattle.opcodes.specs.Instruction.{decode}
 use Rattle.definition.specs.Execution.{Does, _>>=_, _>>_, give, state, change, load, store, idle, peek, execute, executing}
@@ -112,7 +112,7 @@ pub record Ended : Type 0 where
   pub cpu : Cpu
 
 abbrev pub ended : Outcome → Cpu → Ask Ended
-ended o s = answer (record { outcome = o; cpu = s })
+ended o s = leaf (record { outcome = o; cpu = s })
 
 -- The step as a tree.
 abbrev pub stepTree : Cpu → Ask Ended

@@ -7,7 +7,7 @@ use Rattle.sm83.specs.declared.Cpu.{Cpu}
 use Rattle.outcome.specs.declared.interrupt.NextInterrupt.{NextInterrupt}
 use Rattle.sm83.specs.Basics.{if_then_else_, word, highByte, lowByte, next, back}
 use Rattle.definition.specs.Bus as bus
-use Rattle.definition.specs.Bus.{Kind, Operand, Stack, Ask, answer, read, write, writeAndTake}
+use Rattle.definition.specs.Bus.{Kind, Operand, Stack, Ask, leaf, read, write, writeAndTake}
 use Rattle.sm83.specs.State.{pairAF, pairBC, pairDE, pairHL, writeA, writeF, writeSP, writePC, putBC, putDE, putHL, writeBC, writeDE, writeHL, writeAF, onRegisters}
 use Rattle.opcodes.specs.Arithmetic.{Result}
 use Rattle.opcodes.specs.Instruction.{Reg8, rB, rC, rD, rE, rH, rL, [HL], rA, Reg16, rBC, rDE, rHL, rSP, Stacked, pBC, pDE, pHL, pAF, Pointer, [BC], [DE], [HL+], [HL-]}
@@ -25,7 +25,7 @@ Any a = Unit {0}
 
 -- where memory answers bytes: places are asked, bytes are written, and the end is as Q says
 abbrev pub Safe : {R : Type 0} → (R → Type 0) → Ask R → Type 0
-Safe Q (answer e) = Q e
+Safe Q (leaf e) = Q e
 Safe Q (read k a f) = Place a × ((v : ℕ) → Byte v → Safe Q (f v))
 Safe Q (write k a v p) = Place a × Byte v × Safe Q p
 Safe Q (bus.idle p) = Safe Q p

@@ -10,7 +10,7 @@ use lib.Seq.{getD-set-same, getD-set-other, set-out}
 use borrow.Author.Tests.{ltb-true, ltb-false, eqb-true, eqb-false}
 use Rattle.sm83.specs.declared.Cpu.{Cpu}
 use Rattle.sm83.specs.Basics.{if_then_else_, cleared}
-use Rattle.definition.specs.Bus.{Kind, Stack, Ask, answer, read, write, idle, peek, writeAndTake, Bus, runOn, byteAt, pending, without, taken, plain}
+use Rattle.definition.specs.Bus.{Kind, Stack, Ask, leaf, read, write, idle, peek, writeAndTake, Bus, runOn, byteAt, pending, without, taken, plain}
 use Rattle.outcome.specs.declared.interrupt.NextInterrupt.{NextInterrupt}
 use Rattle.outcome.specs.declared.interrupt.NextInterrupt.the-variants.{NonePending, Pending}
 use Rattle.outcome.specs.Interrupts.{interruptNumber}
@@ -44,7 +44,7 @@ pub record Lawful {W : Type 0} (b : Bus W) (Good : W → Type 0) : Type 0 where
 module _ {W : Type 0} (b : Bus W) (sized : Sized b) where
   tree-size : {A : Type 0} (p : Ask A) (m : W) → b .size (runOn b p m .memory) ≡ b .size m
   unfolding runOn
-  tree-size (answer a) m = refl
+  tree-size (leaf a) m = refl
   tree-size (read k a f) m = tree-size (f (b .sees m a)) (b .afterRead k m a) ∙ sized .by-read k m a
   tree-size (write k a v p) m = tree-size p (b .afterWrite k m a v) ∙ sized .by-write k m a v
   tree-size (idle p) m = tree-size p (b .afterIdle m) ∙ sized .by-idle m
@@ -76,7 +76,7 @@ EndRanged e = OutcomeRanged (e .outcome) × Ranged (e .cpu .registers)
 module _ {W : Type 0} (b : Bus W) (Good : W → Type 0) (law : Lawful b Good) where
   tree-ranges : {A : Type 0} (Q : A → Type 0) (p : Ask A) (m : W) → Safe Q p → Good m → Q (runOn b p m .value) × Good (runOn b p m .memory)
   unfolding runOn
-  tree-ranges Q (answer a) m h g = (h, g)
+  tree-ranges Q (leaf a) m h g = (h, g)
   tree-ranges Q (read k a f) m h g =
       tree-ranges Q (f (b .sees m a)) (b .afterRead k m a) (h .1 (b .sees m a) (law .shows m a g (h .0))) (law .read-good k m a g (h .0))
   tree-ranges Q (write k a v p) m h g = tree-ranges Q p (b .afterWrite k m a v) (h .2) (law .write-good k m a v g (h .0) (h .1))

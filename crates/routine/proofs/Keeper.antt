@@ -8,7 +8,7 @@ use native.Mathlib.Omega.{arith}
 use lib.Dec.{leb, ltb, T, T-not, le→leb, lt→ltb}
 use lib.ListN.{length-set}
 use lib.Seq.{getD-set-other}
-use Rattle.definition.specs.Bus.{Kind, Ask, answer, read, write, idle, peek, writeAndTake, Access, Read, Write, Idle, WriteAndTake, Bus, Performed, runOn, plain}
+use Rattle.definition.specs.Bus.{Kind, Ask, leaf, read, write, idle, peek, writeAndTake, Access, Read, Write, Idle, WriteAndTake, Bus, Performed, runOn, plain}
 use Rattle.definition.specs.Step.{Ended}
 use Rattle.routine.specs.Trace.{takesNone, inWindow, spares, SameWindow}
 use Rattle.routine.proofs.Onward.{anything, Ends}
@@ -69,7 +69,7 @@ module _ {W : Type 0} (b : Bus W) (first n : ℕ) (keep : Keeper b first n) (Q :
 
   comes : (K : ℕ → ℕ → Type 0) → Lasts K → (p : Ask Ended) → Ends K Q p → (m : W) → Tells b K m → Came b first n Q m (runOn b p m)
   unfolding runOn
-  comes K lasts (answer e) h m tells = (h, tt, λ spared. ((λ a from to. refl), refl))
+  comes K lasts (leaf e) h m tells = (h, tt, λ spared. ((λ a from to. refl), refl))
   comes K lasts (read k a f) h m tells =
       along m (b .afterRead k m a) (f (b .sees m a)) (keep .by-read k m a)
       (comes K lasts (f (b .sees m a)) (h (b .sees m a) (tells a)) (b .afterRead k m a) (lasts m _ (keep .by-read k m a) tells))

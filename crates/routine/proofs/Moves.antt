@@ -9,7 +9,7 @@ use Rattle.sm83.specs.declared.Cpu.{Cpu}
 use Rattle.outcome.specs.declared.Outcome.{Outcome}
 use Rattle.outcome.specs.declared.Outcome.the-variants.{Normal, InfiniteLoop}
 use Rattle.sm83.specs.Basics.{if_then_else_, word, next, offset, signed}
-use Rattle.definition.specs.Bus.{Ask, answer, read, write, idle, peek, writeAndTake}
+use Rattle.definition.specs.Bus.{Ask, leaf, read, write, idle, peek, writeAndTake}
 use Rattle.sm83.specs.State.{pc, flags, setPC}
 use Rattle.opcodes.specs.Arithmetic.{holds}
 use Rattle.opcodes.specs.Instruction.{Jump, JP-n16, JP-HL, JR-e8, CALL-n16, RET, RETI, JP-cc-n16, JR-cc-e8, CALL-cc-n16, RET-cc, RST-vec}
@@ -32,7 +32,7 @@ abbrev pub LeftBy : Instruction → ℕ → ℕ → ℕ → ℕ → Ended → Ty
 LeftBy i a x y f e = T (isFine (e .outcome)) × QuietParts (e .cpu) × Moves i a x y f (pc (e .cpu))
 
 pub weaker : (K : ℕ → ℕ → Type 0) (P Q : Ended → Type 0) → ((e : Ended) → P e → Q e) → (p : Ask Ended) → Ends K P p → Ends K Q p
-weaker K P Q so (answer e) h = so e h
+weaker K P Q so (leaf e) h = so e h
 weaker K P Q so (read k a f) h = λ v told. weaker K P Q so (f v) (h v told)
 weaker K P Q so (write k a v p) h = weaker anything P Q so p h
 weaker K P Q so (idle p) h = weaker K P Q so p h

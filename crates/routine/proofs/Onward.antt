@@ -9,7 +9,7 @@ use Rattle.sm83.specs.declared.HaltMode.the-variants.{NotHalting}
 use Rattle.outcome.specs.declared.interrupt.NextInterrupt.{NextInterrupt}
 use Rattle.outcome.specs.declared.Outcome.the-variants.{Normal}
 use Rattle.sm83.specs.Basics.{next}
-use Rattle.definition.specs.Bus.{Ask, answer, read, write, idle, peek, writeAndTake}
+use Rattle.definition.specs.Bus.{Ask, leaf, read, write, idle, peek, writeAndTake}
 use Rattle.sm83.specs.State.{pc, sp, flags, setPC, setSP, setF, onRegisters}
 use Rattle.opcodes.specs.Instruction.{Reg8, rB, rC, rD, rE, rH, rL, [HL], rA, Reg16, rBC, rDE, rHL, rSP, Stacked, pBC, pDE, pHL, pAF, Pointer, [BC], [DE], [HL+], [HL-]}
 use Rattle.opcodes.specs.Instruction.{Work, NOP, DI, LD-r8-r8, LD-r8-n8, LD-r16-n16, LD-[r16]-A, LD-A-[r16], LD-[n16]-A, LD-A-[n16], LDH-[n8]-A, LDH-A-[n8], LDH-[C]-A, LDH-A-[C], LD-[n16]-SP, LD-SP-HL, LD-HL-SP+e8, ADD-SP-e8, ALU-A-r8, ALU-A-n8, ACC, INC-r8, DEC-r8, INC-r16, DEC-r16, ADD-HL-r16, PUSH-r16, POP-r16, workOperands}
@@ -25,7 +25,7 @@ anything a v = Unit {0}
 
 -- The tree ends as Q says if each read before its first write answers as K says; and it takes no interrupt.
 abbrev pub Ends : (ℕ → ℕ → Type 0) → (Ended → Type 0) → Ask Ended → Type 0
-Ends K Q (answer e) = Q e
+Ends K Q (leaf e) = Q e
 Ends K Q (read k a f) = (v : ℕ) → K a v → Ends K Q (f v)
 Ends K Q (write k a v p) = Ends anything Q p
 Ends K Q (idle p) = Ends K Q p

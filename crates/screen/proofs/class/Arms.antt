@@ -50,17 +50,17 @@ no-single A (ks ∷ l) t rest = with-later (no-single (A × (OneOf ks t → ⊥)
     with-later : (A × (OneOf ks t → ⊥)) × T (not (isSingle l t)) → A × T (not (if hasKey ks t then true else isSingle l t))
     with-later h = (h .0 .0, here (hasKey ks t) refl (h .0 .1) (h .1))
 
-module _ {B : Type 0} (answer : ℕ → B) (n : ℕ) where
-  -- a value where a test takes a number, and the answer elsewhere: the same as the answer everywhere
+module _ {B : Type 0} (meaning : ℕ → B) (n : ℕ) where
+  -- a value where a test takes a number, and what a number means elsewhere: the same as what it means everywhere
   abbrev pub Right : (ℕ → Bool) → B → Type 0
-  Right takes v = upto (λ t. if takes t then v else answer t) n ≡ upto answer n
+  Right takes v = upto (λ t. if takes t then v else meaning t) n ≡ upto meaning n
 
-  taken : (takes : ℕ → Bool) (v : B) → Right takes v → (t : ℕ) → t < n → T (takes t) → v ≡ answer t
-  taken takes v right t low it = rw (is-true (takes t) it) at (agree (λ t. if takes t then v else answer t) answer n right t low)
+  taken : (takes : ℕ → Bool) (v : B) → Right takes v → (t : ℕ) → t < n → T (takes t) → v ≡ meaning t
+  taken takes v right t low it = rw (is-true (takes t) it) at (agree (λ t. if takes t then v else meaning t) meaning n right t low)
 
   -- an arm of single numbers, and one of ranges
-  pub by-number : (ks : List ℕ) (v : B) → Right (hasKey ks) v → (t : ℕ) → t < n → OneOf ks t → v ≡ answer t
+  pub by-number : (ks : List ℕ) (v : B) → Right (hasKey ks) v → (t : ℕ) → t < n → OneOf ks t → v ≡ meaning t
   by-number ks v right t low one = taken (hasKey ks) v right t low (T-not-not (hasKey ks t) (not-T (not (hasKey ks t)) (λ missed. miss ks t missed one)))
 
-  pub by-range : (l : List (List ℕ)) (v : B) → Right (λ t. not (isSingle l t)) v → (t : ℕ) → t < n → Rest (Unit {0}) l t → v ≡ answer t
+  pub by-range : (l : List (List ℕ)) (v : B) → Right (λ t. not (isSingle l t)) v → (t : ℕ) → t < n → Rest (Unit {0}) l t → v ≡ meaning t
   by-range l v right t low rest = taken (λ k. not (isSingle l k)) v right t low (no-single (Unit {0}) l t rest .1)
