@@ -32,7 +32,7 @@ pub enum Part {
 // How many parts there are, and the place of each in a row of them: where `Line` keeps what was said of it.
 pub(crate) const PARTS: usize = 13;
 
-pub fn place(part: Part) -> usize
+pub(crate) fn place(part: Part) -> usize
     ensures { λ r. ⌜ PlaceOf part r ⌝ }
 {
     match part {

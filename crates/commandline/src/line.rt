@@ -65,7 +65,7 @@ impl Line {
         }
     }
 
-    pub fn given(self, part: Part) -> Given
+    pub(crate) fn given(self, part: Part) -> Given
         ensures { λ r. ⌜ r ≡ saidOf self part ⌝ }
     {
         let cells = self.cells;
@@ -114,7 +114,7 @@ impl Line {
         }
     }
 
-    pub fn kept(self, part: Part, given: Given, stage: Stage) -> Self
+    pub(crate) fn kept(self, part: Part, given: Given, stage: Stage) -> Self
         ensures { λ r. ⌜ r ≡ kept self part given stage ⌝ }
     {
         let mut cells = self.cells;

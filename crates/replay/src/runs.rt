@@ -7,7 +7,9 @@ ghost use Rattle.records.specs.Record.{memoryLength, changed, changesAt};
 ghost use Rattle.replay.specs.Told.{budgetOf, asked, told, sameLeft};
 ghost use Rattle.replay.specs.Replay.{Lends, agreesRun};
 use crate::told::as_told;
+use blocks::answer::ANSWER_LENGTH;
 use blocks::bytes::word_at;
+use blocks::state::STATE_LENGTH;
 use library::calls::run_blocks;
 use records::layout::AFTER;
 use records::layout::BUDGET;
@@ -41,9 +43,9 @@ fn compare(item: &[u8], mem: &mut [u8], want: &mut [u8]) -> bool
     lay(item, BYTES, mem);
     lay(item, BYTES, want);
     patch(item, from, count, want);
-    let mut state = [0u8; 24];
+    let mut state = [0u8; STATE_LENGTH];
     bytes::copy(&item[STATE..AFTER], &mut state);
-    let mut answer = [0u8; 24];
+    let mut answer = [0u8; ANSWER_LENGTH];
     let number = ask(
         item[KIND],
         &mut state,

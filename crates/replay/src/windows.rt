@@ -5,6 +5,7 @@ ghost use Rattle.records.specs.Record.{memoryLength};
 ghost use Rattle.replay.specs.Window.{Marked, askedScreen, toldScreen, sameScreen, agreesWindow};
 ghost use Rattle.replay.specs.Replay.{Lends};
 use blocks::bytes::word_at;
+use blocks::verdicts::VERDICT_LENGTH;
 use library::screencall::screen_blocks;
 use records::layout::FIRST;
 use records::layout::LAST;
@@ -28,7 +29,7 @@ fn compare(item: &[u8], mem: &mut [u8], marks: &mut [u8]) -> bool
     let end = MARKS + 2 * n;
     lay(item, end, mem);
     bytes::copy(&item[MARKS..middle], marks);
-    let mut answer = [0u8; 4];
+    let mut answer = [0u8; VERDICT_LENGTH];
     let number = screen_blocks(
         mem,
         word_at(item, FIRST),
