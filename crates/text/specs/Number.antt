@@ -83,5 +83,9 @@ ended Prefix = Not NoDigitAfterPrefix
 ended (Hex value) = Is value
 ended (Wrong f) = Not f
 
+-- the number of a text, after what has been read before
+abbrev pub readOn : Reading → List ℕ → Number
+readOn r text = ended (reads r text)
+
 abbrev pub numberIn : List ℕ → Number
-numberIn text = ended (reads Nothing text)
+numberIn text = readOn Nothing text

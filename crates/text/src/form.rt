@@ -1,5 +1,5 @@
 // A form is a text in which some bytes are marks: # $ % & stand for the next value, as four hexadecimal digits, two, a decimal number or
-// flags, and @ for the word.
+// flags, and @ for the word, as it can be shown.
 ghost use mathlib.Core.Path.{_≡_};
 ghost use lib.ListN.{getD};
 ghost use Rattle.text.specs.Page.{page, Wrote};
@@ -8,8 +8,8 @@ ghost use Rattle.text.specs.Form.{flag, flags, meant, takes, filled};
 use crate::digits::put_decimal;
 use crate::hex::put_hex2;
 use crate::hex::put_hex4;
-use crate::page::put;
 use crate::page::put_byte;
+use crate::shown::put_shown;
 
 // A flag's letter, or -.
 fn put_flag(out: &mut [u8], at: usize, bit: u64, letter: u8) -> usize
@@ -54,7 +54,7 @@ fn put_meant(out: &mut [u8], at: usize, b: u8, value: u64, word: &[u8]) -> usize
     }
     let is_word = b == 64;
     if is_word {
-        return put(out, at, word);
+        return put_shown(out, at, word);
     }
     put_byte(out, at, b)
 }

@@ -3,7 +3,7 @@ ghost use mathlib.Core.Path.{_≡_};
 ghost use mathlib.Core.Bool.{true, false};
 ghost use Prim.Native.Nat.{_<_, _≤_};
 ghost use Rattle.text.specs.Within.{Within};
-ghost use Rattle.text.specs.Number.{digitOf, timesBase, grown, decimal, hexadecimal, readDecimal, readHex, begun, afterZero, readByte, reads, ended, numberIn};
+ghost use Rattle.text.specs.Number.{digitOf, timesBase, grown, decimal, hexadecimal, readDecimal, readHex, begun, afterZero, readByte, ended, readOn, numberIn};
 
 // Why a text is no number.
 pub enum Fault {
@@ -12,6 +12,7 @@ pub enum Fault {
     HAtTheEnd,
     HexWithoutPrefix,
     NoDigitAfterPrefix,
+    NotFourDigits,
     TooLarge,
 }
 
@@ -38,7 +39,7 @@ pub enum Reading {
     Wrong(Fault),
 }
 
-fn digit_of(b: u8) -> Digit
+pub(crate) fn digit_of(b: u8) -> Digit
     ensures { λ r. ⌜ r ≡ digitOf b ⌝ }
 {
     let below_0 = b < 48;
@@ -189,14 +190,21 @@ fn ended(r: Reading) -> Number
     }
 }
 
-pub fn number_in(text: &[u8]) -> Number
-    ensures { λ r. ⌜ r ≡ numberIn (now (text .entry)) ⌝ }
+// The bytes of a text, after what has been read before.
+pub(crate) fn read_on(before: Reading, text: &[u8]) -> Number
+    ensures { λ r. ⌜ r ≡ readOn before (now (text .entry)) ⌝ }
 {
-    let mut r = Reading::Nothing;
+    let mut r = before;
     let mut i = 0;
     while i < text.len() {
         r = read_byte(r, text[i]);
         i += 1;
     }
     ended(r)
+}
+
+pub fn number_in(text: &[u8]) -> Number
+    ensures { λ r. ⌜ r ≡ numberIn (now (text .entry)) ⌝ }
+{
+    read_on(Reading::Nothing, text)
 }

@@ -47,7 +47,7 @@ returns-5 c =
     let test-decimal = test-flags .before in
     let test-hex2 = test-decimal .before in
     let test-hex4 = test-hex2 .before in
-    simp (test-word .if5 .taken, test-flags .if4 .left, test-decimal .if3 .left, test-hex2 .if2 .left, test-hex4 .if1 .left) (put-it .put .ensures)
+    simp (test-word .if5 .taken, test-flags .if4 .left, test-decimal .if3 .left, test-hex2 .if2 .left, test-hex4 .if1 .left) (put-it .put-shown .ensures)
 
 returns-6 : tie.Need-returns-6
 unfolding meant

@@ -4,14 +4,13 @@ use Prim.Native.Nat.{_≤_, _-_, _+_}
 use native.Mathlib.Omega.{arith}
 use lib.ListN.{length, drop}
 use Rattle.text.specs.declared.number.Reading.{Reading}
-use Rattle.text.specs.declared.number.Reading.the-variants.{Nothing}
 use Rattle.text.specs.Number.{reads, ended}
 use Rattle.text.proofs.number.ByteRead.{byte-read, all-read}
-use Rattle.text.proofs.number.number_in.Statement.{statement}
-use Rattle.text.proofs.number.number_in.Tie as tie
+use Rattle.text.proofs.number.read_on.Statement.{statement}
+use Rattle.text.proofs.number.read_on.Tie as tie
 
 abbrev Inv-loop : tie.InvT-loop
-Inv-loop text r₀ i₀ r i = (i ≤ length text) × (reads r (drop i text) ≡ reads Nothing text)
+Inv-loop text r₀ i₀ r i = (i ≤ length text) × (reads r (drop i text) ≡ reads r₀ text)
 
 abbrev μ-loop : tie.MeasureT-loop
 μ-loop text r₀ i₀ r i = length text - i
@@ -32,5 +31,5 @@ returns c =
     let at = c .before .before .loop in
     c .ended .ensures ∙ ap ended (sym (all-read (at .r) _ (at .i) (c .before .loop-test .left)) ∙ at .inv .1)
 
-pub number-in-spec : {M : Type 1} → statement M
-number-in-spec = tie.close (tie.spec Inv-loop μ-loop loop-holds (λ c. omega arith) (λ c κs. omega arith) (λ c. omega arith) (λ c. omega arith) loop-again (λ c κs. omega arith) returns)
+pub read-on-spec : {M : Type 1} → statement M
+read-on-spec = tie.close (tie.spec Inv-loop μ-loop loop-holds (λ c. omega arith) (λ c κs. omega arith) (λ c. omega arith) (λ c. omega arith) loop-again (λ c κs. omega arith) returns)

@@ -1,0 +1,2 @@
+-- Laws of the sixteen digits.
+pub mod Sixteen
