@@ -1,7 +1,7 @@
 -- An arm of the match on a command's options is right: one computed test over the numbers of the arm.
 use mathlib.Core.Path.{_≡_, refl, sym, ap, subst, _∙_}
 use mathlib.Core.Bool.{Bool, true, false}
-use mathlib.Core.List.{List, [], _∷_, map}
+use mathlib.Core.List.{List, [], _∷_, _++_, map}
 use mathlib.Core.Logic.{inl, inr}
 use Prim.Native.Nat.{ℕ, zero, suc, _+_}
 use types.Run.{OneOf}
@@ -9,7 +9,7 @@ use denote.Enum.Declared.{tagOf}
 use Rattle.text.specs.Page.{choose}
 use Rattle.commandline.specs.declared.grammar.Command.{Command}
 use Rattle.commandline.specs.declared.grammar.Part.{Part}
-use Rattle.commandline.specs.declared.grammar.Part.the-variants.{Image, First, Last, At, State, Pc, Sp, Steps, Out, Marks, Map, Trace, Help}
+use Rattle.commandline.specs.declared.grammar.Part.the-variants.{Image, First, Last, Address, Count, Topic, At, State, Pc, Sp, Af, Bc, De, Hl, Ime, Ei, Steps, Out, Marks, Map, Trace, Stack, Help}
 use Rattle.commandline.proofs.grammar.Part.{the-type}
 use Rattle.commandline.specs.Grammar.{place, parts, isIn, optionsOf, allows}
 
@@ -18,15 +18,25 @@ placed : (p : Part) → tagOf the-type p ≡ place p
 placed Image = refl
 placed First = refl
 placed Last = refl
+placed Address = refl
+placed Count = refl
+placed Topic = refl
 placed At = refl
 placed State = refl
 placed Pc = refl
 placed Sp = refl
+placed Af = refl
+placed Bc = refl
+placed De = refl
+placed Hl = refl
+placed Ime = refl
+placed Ei = refl
 placed Steps = refl
 placed Out = refl
 placed Marks = refl
 placed Map = refl
 placed Trace = refl
+placed Stack = refl
 placed Help = refl
 
 later : (f : ℕ → Bool) (b : Bool) (k : ℕ) (ks : List ℕ) → map f (k ∷ ks) ≡ map (λ (n : ℕ). b) (k ∷ ks) → (x : ℕ) → OneOf (k ∷ ks) x → b ≡ f x
@@ -53,9 +63,9 @@ taken c = answers c true (named c)
 -- the arm for all other parts
 abbrev without : List Part → ℕ → ℕ → List ℕ
 without l n zero = []
-without l n (suc count) = choose (isIn n l) (without l (n + 1) count) (n ∷ without l (n + 1) count)
+without l n (suc count) = choose (isIn n l) [] (n ∷ []) ++ without l (n + 1) count
 
-abbrev pub others : Command → List ℕ
+unfoldable pub others : Command → List ℕ
 others c = without (optionsOf c) 0 parts
 
 pub refused : (c : Command) → map (λ (n : ℕ). isIn n (optionsOf c)) (others c) ≡ map (λ (n : ℕ). false) (others c) → (d : Command) → d ≡ c → (p : Part) → OneOf (others c) (tagOf the-type p) → false ≡ allows d p

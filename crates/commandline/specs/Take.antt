@@ -8,6 +8,7 @@ use Rattle.text.specs.Page.{choose}
 use Rattle.text.specs.declared.number.Number.{Number}
 use Rattle.text.specs.declared.number.Number.the-variants as number
 use Rattle.text.specs.Number.{numberIn}
+use Rattle.text.specs.Address.{addressIn}
 use Rattle.commandline.specs.declared.grammar.Command.{Command}
 use Rattle.commandline.specs.declared.grammar.Part.{Part}
 use Rattle.commandline.specs.declared.grammar.Turn.{Turn}
@@ -21,7 +22,7 @@ use Rattle.commandline.specs.declared.grammar.NamedOption.the-variants a
 use Rattle.commandline.specs.declared.grammar.NamedPower.{NamedPower}
 use Rattle.commandline.specs.declared.grammar.NamedPower.the-variants as power
 use Rattle.commandline.specs.declared.line.Mistake.{Mistake}
-use Rattle.commandline.specs.declared.line.Mistake.the-variants.{UnknownCommand, UnknownOption, NotHere, Twice, TooMany, UnknownPower, BadNumber, AddressTooLarge}
+use Rattle.commandline.specs.declared.line.Mistake.the-variants.{UnknownCommand, UnknownOption, NotHere, Twice, NoValue, TooMany, UnknownPower, BadNumber, AddressTooLarge, WordTooLong}
 use Rattle.commandline.specs.declared.line.Stage.{Stage}
 use Rattle.commandline.specs.declared.line.Stage.the-variants.{Start, Takes, Awaits, Wrong}
 use Rattle.commandline.specs.declared.given.Given.{Given}
@@ -29,7 +30,7 @@ use Rattle.commandline.specs.declared.given.Given.the-variants as given
 use Rattle.commandline.specs.declared.line.Line.{Line}
 use Rattle.commandline.specs.declared.take.Read.{Read}
 use Rattle.commandline.specs.declared.take.Read.the-variants.{As, Not}
-use Rattle.commandline.specs.Grammar.{turnOf, allows, kindOf, isAlone, commandNamed, optionNamed, powerNamed}
+use Rattle.commandline.specs.Grammar.{turnOf, allows, kindOf, valuesOf, isAlone, commandNamed, optionNamed, powerNamed}
 use Rattle.commandline.specs.Given.{isGiven}
 use Rattle.commandline.specs.Line.{saidOf, withStage, kept}
 
@@ -48,13 +49,18 @@ unfoldable pub asPower : Part → ℕ → NamedPower → Read
 asPower p index (power.Is s) = As (given.Power s)
 asPower p index power.Unknown = Not (UnknownPower p index)
 
+unfoldable pub asTopic : ℕ → NamedCommand → Read
+asTopic index (command.Is c) = As (given.Command c)
+asTopic index command.Unknown = Not (UnknownCommand index)
+
 -- a word as the value of a part
 unfoldable pub valueIn : Kind → Part → List ℕ → ℕ → Read
 valueIn kind.Alone p word index = As given.Alone
 valueIn kind.Path p word index = As (given.Word index)
-valueIn kind.Address p word index = asAddress p index (numberIn word)
+valueIn kind.Address p word index = asAddress p index (addressIn word)
 valueIn kind.Number p word index = asNumber p index (numberIn word)
 valueIn kind.Power p word index = asPower p index (powerNamed word)
+valueIn kind.Command p word index = asTopic index (commandNamed word)
 
 abbrev pub wrong : Line → Mistake → Line
 wrong l m = withStage l (Wrong m)
@@ -66,11 +72,18 @@ keeps l after p (Not m) = wrong l m
 abbrev pub takeValue : Line → Stage → Part → List ℕ → ℕ → Line
 takeValue l after p word index = keeps l after p (valueIn (kindOf p) p word index)
 
+-- these values of an option are due
+unfoldable pub awaiting : Command → Turn → Turn → Stage
+awaiting c turn Nothing = Takes c turn
+awaiting c turn (One p) = Awaits c turn p Nothing
+awaiting c turn (Two p q) = Awaits c turn p (One q)
+awaiting c turn (Three p q r) = Awaits c turn p (Two q r)
+
 unfoldable pub takeOption : Line → Command → Turn → Part → ℕ → Line
 takeOption l c turn p index =
     choose (not (allows c p)) (wrong l (NotHere index))
     (choose (isGiven (saidOf l p)) (wrong l (Twice index))
-    (choose (isAlone (kindOf p)) (kept l p given.Alone (Takes c turn)) (withStage l (Awaits c turn p))))
+    (choose (isAlone (valuesOf p)) (kept l p given.Alone (Takes c turn)) (withStage l (awaiting c turn (valuesOf p)))))
 
 unfoldable pub takeDashed : Line → Command → Turn → ℕ → NamedOption → Line
 takeDashed l c turn index (option.Is p) = takeOption l c turn p index
@@ -93,11 +106,25 @@ isDashed word = choose (ltb 0 (length word)) (eqb (getD word 0 0) 45) false
 unfoldable pub takeNext : Line → Command → Turn → List ℕ → ℕ → Line
 takeNext l c turn word index = choose (isDashed word) (takeDashed l c turn index (optionNamed word)) (takeTurn l c turn word index)
 
+-- the value of an option
+unfoldable pub takeAwaited : Line → Stage → Part → List ℕ → ℕ → Line
+takeAwaited l after p word index = choose (isDashed word) (wrong l (NoValue p)) (takeValue l after p word index)
+
 unfoldable pub takeAt : Stage → Line → List ℕ → ℕ → Line
 takeAt Start l word index = takeCommand l index (commandNamed word)
 takeAt (Takes c turn) l word index = takeNext l c turn word index
-takeAt (Awaits c turn p) l word index = takeValue l (Takes c turn) p word index
+takeAt (Awaits c turn p more) l word index = takeAwaited l (awaiting c turn more) p word index
 takeAt (Wrong m) l word index = l
 
 abbrev pub takeWord : Line → List ℕ → ℕ → Line
 takeWord l word index = takeAt (l .stage) l word index
+
+-- a word that was too long to be read
+unfoldable pub overlongAt : Stage → Line → ℕ → Line
+overlongAt Start l index = wrong l (WordTooLong index)
+overlongAt (Takes c turn) l index = wrong l (WordTooLong index)
+overlongAt (Awaits c turn p more) l index = wrong l (WordTooLong index)
+overlongAt (Wrong m) l index = l
+
+abbrev pub takeOverlong : Line → ℕ → Line
+takeOverlong l index = overlongAt (l .stage) l index

@@ -2,10 +2,11 @@
 ghost use mathlib.Core.Path.{_≡_};
 ghost use Rattle.commandline.specs.declared.finish.Asked.the-variants.{Mistaken};
 ghost use Rattle.commandline.specs.declared.line.Mistake.the-variants.{NoValue};
-ghost use Rattle.commandline.specs.Finish.{ordered, filled, orHelp, finished};
+ghost use Rattle.commandline.specs.Finish.{ordered, lacking, filled, orHelp, finished};
 use crate::grammar::Command;
 use crate::grammar::Part;
 use crate::grammar::Turn;
+use crate::grammar::may_lack;
 use crate::line::Line;
 use crate::line::Mistake;
 use crate::line::Stage;
@@ -30,25 +31,38 @@ fn ordered(line: Line, command: Command) -> Asked
     Asked::Obey(command)
 }
 
+// The last unnamed word is missing, which some may be.
+fn lacking(line: Line, command: Command, part: Part) -> Asked
+    ensures { λ r. ⌜ r ≡ lacking line command part ⌝ }
+{
+    let free = may_lack(part);
+    if free {
+        return ordered(line, command);
+    }
+    Asked::Mistaken(Mistake::NotGiven(part))
+}
+
 // An unnamed word may be missing.
 fn filled(line: Line, command: Command, turn: Turn) -> Asked
     ensures { λ r. ⌜ r ≡ filled line command turn ⌝ }
 {
     match turn {
         Turn::Nothing => ordered(line, command),
-        Turn::One(part) => Asked::Mistaken(Mistake::NotGiven(part)),
+        Turn::One(part) => lacking(line, command, part),
         Turn::Two(part, _) => Asked::Mistaken(Mistake::NotGiven(part)),
         Turn::Three(part, _, _) => Asked::Mistaken(Mistake::NotGiven(part)),
     }
 }
 
-// --help asks for the command's help, whatever the line lacks.
+// --help asks for the command's help, whatever the line lacks; a topic, for that of the topic.
 fn or_help(line: Line, command: Command, asked: Asked) -> Asked
     ensures { λ r. ⌜ r ≡ orHelp line command asked ⌝ }
 {
-    let helps = line.has(Part::Help);
+    let option = line.has(Part::Help);
+    let topic = line.has(Part::Topic);
+    let helps = option | topic;
     if helps {
-        return Asked::Help(command);
+        return Asked::Help(line.topic(command));
     }
     asked
 }
@@ -60,7 +74,7 @@ pub fn finish(line: Line) -> Asked
     match stage {
         Stage::Start => Asked::Mistaken(Mistake::NoCommand),
         Stage::Takes(command, turn) => or_help(line, command, filled(line, command, turn)),
-        Stage::Awaits(command, _, part) => {
+        Stage::Awaits(command, _, part, _) => {
             or_help(line, command, Asked::Mistaken(Mistake::NoValue(part)))
         }
         Stage::Wrong(mistake) => Asked::Mistaken(mistake),

@@ -1,6 +1,7 @@
 // What was said of a part, and the value in it, if it has one of this kind.
 ghost use mathlib.Core.Path.{_≡_};
-ghost use Rattle.commandline.specs.Given.{isGiven, wordOr, addressOr, numberOr, powerOr};
+ghost use Rattle.commandline.specs.Given.{isGiven, wordOr, addressOr, numberOr, powerOr, commandOr};
+use crate::grammar::Command;
 use crate::grammar::Power;
 
 // A path is kept by its word's index.
@@ -11,6 +12,7 @@ pub enum Given {
     Address(u16),
     Number(u64),
     Power(Power),
+    Command(Command),
 }
 
 pub(crate) fn is_given(given: Given) -> bool
@@ -23,6 +25,7 @@ pub(crate) fn is_given(given: Given) -> bool
         Given::Address(_) => true,
         Given::Number(_) => true,
         Given::Power(_) => true,
+        Given::Command(_) => true,
     }
 }
 
@@ -36,6 +39,7 @@ pub(crate) fn word_or(given: Given, other: usize) -> usize
         Given::Address(_) => other,
         Given::Number(_) => other,
         Given::Power(_) => other,
+        Given::Command(_) => other,
     }
 }
 
@@ -49,6 +53,7 @@ pub(crate) fn address_or(given: Given, other: u16) -> u16
         Given::Address(x) => x,
         Given::Number(_) => other,
         Given::Power(_) => other,
+        Given::Command(_) => other,
     }
 }
 
@@ -62,6 +67,7 @@ pub(crate) fn number_or(given: Given, other: u64) -> u64
         Given::Address(_) => other,
         Given::Number(x) => x,
         Given::Power(_) => other,
+        Given::Command(_) => other,
     }
 }
 
@@ -75,5 +81,20 @@ pub(crate) fn power_or(given: Given, other: Power) -> Power
         Given::Address(_) => other,
         Given::Number(_) => other,
         Given::Power(x) => x,
+        Given::Command(_) => other,
+    }
+}
+
+pub(crate) fn command_or(given: Given, other: Command) -> Command
+    ensures { λ r. ⌜ r ≡ commandOr given other ⌝ }
+{
+    match given {
+        Given::Nothing => other,
+        Given::Alone => other,
+        Given::Word(_) => other,
+        Given::Address(_) => other,
+        Given::Number(_) => other,
+        Given::Power(_) => other,
+        Given::Command(x) => x,
     }
 }

@@ -1,13 +1,16 @@
 // The grammar: the commands, what a word may stand for, which words a command takes, and what follows an option. A new command or option
 // is one case in each of these, and a sentence in the program.
 ghost use mathlib.Core.Path.{_≡_};
-ghost use Rattle.commandline.specs.Grammar.{PlaceOf, turnOf, allows, kindOf, isAlone, commandNamed, optionNamed, powerNamed};
+ghost use Rattle.commandline.specs.declared.grammar.Command.the-variants.{Run, Step};
+ghost use Rattle.commandline.specs.Grammar.{PlaceOf, turnOf, mayLack, allows, kindOf, valuesOf, isAlone, commandNamed, optionNamed, powerNamed};
 use text::lines::number_of;
 
 pub enum Command {
     Screen,
     Run,
     Step,
+    Show,
+    Demo,
     Version,
     Help,
 }
@@ -17,20 +20,30 @@ pub enum Part {
     Image,
     First,
     Last,
+    Address,
+    Count,
+    Topic,
     At,
     State,
     Pc,
     Sp,
+    Af,
+    Bc,
+    De,
+    Hl,
+    Ime,
+    Ei,
     Steps,
     Out,
     Marks,
     Map,
     Trace,
+    Stack,
     Help,
 }
 
 // How many parts there are, and the place of each in a row of them: where `Line` keeps what was said of it.
-pub(crate) const PARTS: usize = 13;
+pub(crate) const PARTS: usize = 23;
 
 pub(crate) fn place(part: Part) -> usize
     ensures { λ r. ⌜ PlaceOf part r ⌝ }
@@ -39,16 +52,26 @@ pub(crate) fn place(part: Part) -> usize
         Part::Image => 0,
         Part::First => 1,
         Part::Last => 2,
-        Part::At => 3,
-        Part::State => 4,
-        Part::Pc => 5,
-        Part::Sp => 6,
-        Part::Steps => 7,
-        Part::Out => 8,
-        Part::Marks => 9,
-        Part::Map => 10,
-        Part::Trace => 11,
-        Part::Help => 12,
+        Part::Address => 3,
+        Part::Count => 4,
+        Part::Topic => 5,
+        Part::At => 6,
+        Part::State => 7,
+        Part::Pc => 8,
+        Part::Sp => 9,
+        Part::Af => 10,
+        Part::Bc => 11,
+        Part::De => 12,
+        Part::Hl => 13,
+        Part::Ime => 14,
+        Part::Ei => 15,
+        Part::Steps => 16,
+        Part::Out => 17,
+        Part::Marks => 18,
+        Part::Map => 19,
+        Part::Trace => 20,
+        Part::Stack => 21,
+        Part::Help => 22,
     }
 }
 
@@ -60,7 +83,7 @@ pub enum Power {
     Zero,
 }
 
-// The unnamed words that are still to come, in their order.
+// The words that are still to come, in their order.
 pub enum Turn {
     Nothing,
     One(Part),
@@ -76,8 +99,85 @@ pub(crate) fn turn_of(command: Command) -> Turn
         Command::Screen => Turn::Three(Part::Image, Part::First, Part::Last),
         Command::Run => Turn::One(Part::Image),
         Command::Step => Turn::One(Part::Image),
+        Command::Show => Turn::Three(Part::Image, Part::Address, Part::Count),
+        Command::Demo => Turn::Nothing,
         Command::Version => Turn::Nothing,
-        Command::Help => Turn::Nothing,
+        Command::Help => Turn::One(Part::Topic),
+    }
+}
+
+// The unnamed words that may be left out at the end of a line.
+pub(crate) fn may_lack(part: Part) -> bool
+    ensures { λ r. ⌜ r ≡ mayLack part ⌝ }
+{
+    match part {
+        Part::Image => false,
+        Part::First => false,
+        Part::Last => false,
+        Part::Address => false,
+        Part::Count => true,
+        Part::Topic => true,
+        Part::At => false,
+        Part::State => false,
+        Part::Pc => false,
+        Part::Sp => false,
+        Part::Af => false,
+        Part::Bc => false,
+        Part::De => false,
+        Part::Hl => false,
+        Part::Ime => false,
+        Part::Ei => false,
+        Part::Steps => false,
+        Part::Out => false,
+        Part::Marks => false,
+        Part::Map => false,
+        Part::Trace => false,
+        Part::Stack => false,
+        Part::Help => false,
+    }
+}
+
+// The options of `run`; --within is FIRST, the first of its two addresses.
+fn run_allows(part: Part) -> bool
+    ensures { λ r. ⌜ r ≡ allows Run part ⌝ }
+{
+    match part {
+        Part::First
+        | Part::At
+        | Part::State
+        | Part::Pc
+        | Part::Sp
+        | Part::Af
+        | Part::Bc
+        | Part::De
+        | Part::Hl
+        | Part::Ime
+        | Part::Ei
+        | Part::Steps
+        | Part::Out
+        | Part::Trace
+        | Part::Help => true,
+        _ => false,
+    }
+}
+
+fn step_allows(part: Part) -> bool
+    ensures { λ r. ⌜ r ≡ allows Step part ⌝ }
+{
+    match part {
+        Part::At
+        | Part::State
+        | Part::Pc
+        | Part::Sp
+        | Part::Af
+        | Part::Bc
+        | Part::De
+        | Part::Hl
+        | Part::Ime
+        | Part::Ei
+        | Part::Out
+        | Part::Help => true,
+        _ => false,
     }
 }
 
@@ -90,19 +190,14 @@ pub(crate) fn allows(command: Command, part: Part) -> bool
             Part::At | Part::Marks | Part::Map | Part::Help => true,
             _ => false,
         },
-        Command::Run => match part {
-            Part::At
-            | Part::State
-            | Part::Pc
-            | Part::Sp
-            | Part::Steps
-            | Part::Out
-            | Part::Trace
-            | Part::Help => true,
+        Command::Run => run_allows(part),
+        Command::Step => step_allows(part),
+        Command::Show => match part {
+            Part::At | Part::Stack | Part::Help => true,
             _ => false,
         },
-        Command::Step => match part {
-            Part::At | Part::State | Part::Pc | Part::Sp | Part::Out | Part::Help => true,
+        Command::Demo => match part {
+            Part::Help => true,
             _ => false,
         },
         Command::Version => match part {
@@ -123,9 +218,10 @@ pub enum Kind {
     Address,
     Number,
     Power,
+    Command,
 }
 
-// Which value an unnamed word is, and which comes after an option.
+// Which value a word is that stands for the part.
 pub(crate) fn kind_of(part: Part) -> Kind
     ensures { λ r. ⌜ r ≡ kindOf part ⌝ }
 {
@@ -133,28 +229,68 @@ pub(crate) fn kind_of(part: Part) -> Kind
         Part::Image => Kind::Path,
         Part::First => Kind::Address,
         Part::Last => Kind::Address,
+        Part::Address => Kind::Address,
+        Part::Count => Kind::Number,
+        Part::Topic => Kind::Command,
         Part::At => Kind::Address,
         Part::State => Kind::Power,
         Part::Pc => Kind::Address,
         Part::Sp => Kind::Address,
+        Part::Af => Kind::Address,
+        Part::Bc => Kind::Address,
+        Part::De => Kind::Address,
+        Part::Hl => Kind::Address,
+        Part::Ime => Kind::Alone,
+        Part::Ei => Kind::Alone,
         Part::Steps => Kind::Number,
         Part::Out => Kind::Path,
         Part::Marks => Kind::Alone,
         Part::Map => Kind::Alone,
         Part::Trace => Kind::Alone,
+        Part::Stack => Kind::Alone,
         Part::Help => Kind::Alone,
     }
 }
 
-pub(crate) fn is_alone(kind: Kind) -> bool
-    ensures { λ r. ⌜ r ≡ isAlone kind ⌝ }
+// The values that come after an option: none if it stands alone, its own, or the two addresses of --within.
+pub(crate) fn values_of(part: Part) -> Turn
+    ensures { λ r. ⌜ r ≡ valuesOf part ⌝ }
 {
-    match kind {
-        Kind::Alone => true,
-        Kind::Path => false,
-        Kind::Address => false,
-        Kind::Number => false,
-        Kind::Power => false,
+    match part {
+        Part::Image => Turn::One(Part::Image),
+        Part::First => Turn::Two(Part::First, Part::Last),
+        Part::Last => Turn::One(Part::Last),
+        Part::Address => Turn::One(Part::Address),
+        Part::Count => Turn::One(Part::Count),
+        Part::Topic => Turn::One(Part::Topic),
+        Part::At => Turn::One(Part::At),
+        Part::State => Turn::One(Part::State),
+        Part::Pc => Turn::One(Part::Pc),
+        Part::Sp => Turn::One(Part::Sp),
+        Part::Af => Turn::One(Part::Af),
+        Part::Bc => Turn::One(Part::Bc),
+        Part::De => Turn::One(Part::De),
+        Part::Hl => Turn::One(Part::Hl),
+        Part::Ime => Turn::Nothing,
+        Part::Ei => Turn::Nothing,
+        Part::Steps => Turn::One(Part::Steps),
+        Part::Out => Turn::One(Part::Out),
+        Part::Marks => Turn::Nothing,
+        Part::Map => Turn::Nothing,
+        Part::Trace => Turn::Nothing,
+        Part::Stack => Turn::Nothing,
+        Part::Help => Turn::Nothing,
+    }
+}
+
+pub(crate) fn is_alone(values: Turn) -> bool
+    ensures { λ r. ⌜ r ≡ isAlone values ⌝ }
+{
+    match values {
+        Turn::Nothing => true,
+        Turn::One(_) => false,
+        Turn::Two(_, _) => false,
+        Turn::Three(_, _, _) => false,
     }
 }
 
@@ -168,14 +304,16 @@ pub(crate) fn command_named(word: &[u8]) -> NamedCommand
     ensures { λ r. ⌜ r ≡ commandNamed (now (word .entry)) ⌝ }
 {
     match number_of(
-        b"screen\nrun\nstep\nversion --version\nhelp --help -h",
+        b"screen\nrun\nstep\nshow\ndemo\nversion --version\nhelp --help -h",
         word,
     ) {
         1 => NamedCommand::Is(Command::Screen),
         2 => NamedCommand::Is(Command::Run),
         3 => NamedCommand::Is(Command::Step),
-        4 => NamedCommand::Is(Command::Version),
-        5 => NamedCommand::Is(Command::Help),
+        4 => NamedCommand::Is(Command::Show),
+        5 => NamedCommand::Is(Command::Demo),
+        6 => NamedCommand::Is(Command::Version),
+        7 => NamedCommand::Is(Command::Help),
         _ => NamedCommand::Unknown,
     }
 }
@@ -189,19 +327,27 @@ pub(crate) fn option_named(word: &[u8]) -> NamedOption
     ensures { λ r. ⌜ r ≡ optionNamed (now (word .entry)) ⌝ }
 {
     match number_of(
-        b"--at\n--state\n--pc\n--sp\n--steps\n--out\n--marks\n--map\n--trace\n--help -h",
+        b"--within\n--at\n--state\n--pc\n--sp\n--af\n--bc\n--de\n--hl\n--ime\n--ei\n--steps\n--out\n--marks\n--map\n--trace\n--stack\n--help -h",
         word,
     ) {
-        1 => NamedOption::Is(Part::At),
-        2 => NamedOption::Is(Part::State),
-        3 => NamedOption::Is(Part::Pc),
-        4 => NamedOption::Is(Part::Sp),
-        5 => NamedOption::Is(Part::Steps),
-        6 => NamedOption::Is(Part::Out),
-        7 => NamedOption::Is(Part::Marks),
-        8 => NamedOption::Is(Part::Map),
-        9 => NamedOption::Is(Part::Trace),
-        10 => NamedOption::Is(Part::Help),
+        1 => NamedOption::Is(Part::First),
+        2 => NamedOption::Is(Part::At),
+        3 => NamedOption::Is(Part::State),
+        4 => NamedOption::Is(Part::Pc),
+        5 => NamedOption::Is(Part::Sp),
+        6 => NamedOption::Is(Part::Af),
+        7 => NamedOption::Is(Part::Bc),
+        8 => NamedOption::Is(Part::De),
+        9 => NamedOption::Is(Part::Hl),
+        10 => NamedOption::Is(Part::Ime),
+        11 => NamedOption::Is(Part::Ei),
+        12 => NamedOption::Is(Part::Steps),
+        13 => NamedOption::Is(Part::Out),
+        14 => NamedOption::Is(Part::Marks),
+        15 => NamedOption::Is(Part::Map),
+        16 => NamedOption::Is(Part::Trace),
+        17 => NamedOption::Is(Part::Stack),
+        18 => NamedOption::Is(Part::Help),
         _ => NamedOption::Unknown,
     }
 }

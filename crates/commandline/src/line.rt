@@ -1,9 +1,11 @@
 // What the words of a command line have said so far.
 ghost use mathlib.Core.Path.{_≡_};
-ghost use Rattle.commandline.specs.Given.{isGiven, wordOr, addressOr, numberOr, powerOr};
+ghost use Rattle.commandline.specs.declared.grammar.Part.the-variants.{Topic};
+ghost use Rattle.commandline.specs.Given.{isGiven, wordOr, addressOr, numberOr, powerOr, commandOr};
 ghost use Rattle.commandline.specs.Line.{empty, saidOf, withStage, kept};
 use crate::given::Given;
 use crate::given::address_or;
+use crate::given::command_or;
 use crate::given::is_given;
 use crate::given::number_or;
 use crate::given::power_or;
@@ -30,14 +32,15 @@ pub enum Mistake {
     Reversed,
     BadNumber(Part, usize, Fault),
     AddressTooLarge(Part, usize),
+    WordTooLong(usize),
 }
 
-// Which word may come next: the command; an option, or the first of the unnamed words that are left; the value of an option. After a
-// mistake none does.
+// Which word may come next: the command; an option, or the first of the unnamed words that are left; the value of an option, after which
+// more of its values may be due. After a mistake none does.
 pub enum Stage {
     Start,
     Takes(Command, Turn),
-    Awaits(Command, Turn, Part),
+    Awaits(Command, Turn, Part, Turn),
     Wrong(Mistake),
 }
 
@@ -102,6 +105,13 @@ impl Line {
         ensures { λ r. ⌜ r ≡ powerOr (saidOf self part) other ⌝ }
     {
         power_or(self.given(part), other)
+    }
+
+    // The command that the line asks the help of.
+    pub fn topic(self, other: Command) -> Command
+        ensures { λ r. ⌜ r ≡ commandOr (saidOf self Topic) other ⌝ }
+    {
+        command_or(self.given(Part::Topic), other)
     }
 
     pub(crate) fn with_stage(self, stage: Stage) -> Self

@@ -1,8 +1,9 @@
 // One word of a command line. The first mistake stays.
 ghost use mathlib.Core.Path.{_≡_};
 ghost use Rattle.text.specs.Number.{numberIn};
+ghost use Rattle.text.specs.Address.{addressIn};
 ghost use Rattle.commandline.specs.Grammar.{kindOf, commandNamed, optionNamed, powerNamed};
-ghost use Rattle.commandline.specs.Take.{asNumber, inRange, asAddress, asPower, valueIn, takeValue, takeOption, takeDashed, takeTurn, takeCommand, isDashed, takeNext, takeWord};
+ghost use Rattle.commandline.specs.Take.{asNumber, inRange, asAddress, asPower, asTopic, valueIn, takeValue, awaiting, takeOption, takeDashed, takeTurn, takeCommand, isDashed, takeNext, takeAwaited, takeWord, takeOverlong};
 use crate::given::Given;
 use crate::grammar::Command;
 use crate::grammar::Kind;
@@ -18,9 +19,11 @@ use crate::grammar::kind_of;
 use crate::grammar::option_named;
 use crate::grammar::power_named;
 use crate::grammar::turn_of;
+use crate::grammar::values_of;
 use crate::line::Line;
 use crate::line::Mistake;
 use crate::line::Stage;
+use text::address::address_in;
 use text::number::Number;
 use text::number::number_in;
 
@@ -67,6 +70,15 @@ fn as_power(part: Part, index: usize, named: NamedPower) -> Read
     }
 }
 
+fn as_topic(index: usize, named: NamedCommand) -> Read
+    ensures { λ r. ⌜ r ≡ asTopic index named ⌝ }
+{
+    match named {
+        NamedCommand::Is(command) => Read::As(Given::Command(command)),
+        NamedCommand::Unknown => Read::Not(Mistake::UnknownCommand(index)),
+    }
+}
+
 // A word as the value of a part.
 fn value_in(kind: Kind, part: Part, word: &[u8], index: usize) -> Read
     ensures { λ r. ⌜ r ≡ valueIn kind part (now (word .entry)) index ⌝ }
@@ -74,9 +86,10 @@ fn value_in(kind: Kind, part: Part, word: &[u8], index: usize) -> Read
     match kind {
         Kind::Alone => Read::As(Given::Alone),
         Kind::Path => Read::As(Given::Word(index)),
-        Kind::Address => as_address(part, index, number_in(word)),
+        Kind::Address => as_address(part, index, address_in(word)),
         Kind::Number => as_number(part, index, number_in(word)),
         Kind::Power => as_power(part, index, power_named(word)),
+        Kind::Command => as_topic(index, command_named(word)),
     }
 }
 
@@ -87,6 +100,18 @@ fn take_value(line: Line, after: Stage, part: Part, word: &[u8], index: usize) -
     match value_in(kind_of(part), part, word, index) {
         Read::As(given) => line.kept(part, given, after),
         Read::Not(mistake) => line.with_stage(Stage::Wrong(mistake)),
+    }
+}
+
+// Where a line stands when these values of an option are due: at the first of them; if there are none, the option is done.
+fn awaiting(command: Command, turn: Turn, values: Turn) -> Stage
+    ensures { λ r. ⌜ r ≡ awaiting command turn values ⌝ }
+{
+    match values {
+        Turn::Nothing => Stage::Takes(command, turn),
+        Turn::One(a) => Stage::Awaits(command, turn, a, Turn::Nothing),
+        Turn::Two(a, b) => Stage::Awaits(command, turn, a, Turn::One(b)),
+        Turn::Three(a, b, c) => Stage::Awaits(command, turn, a, Turn::Two(b, c)),
     }
 }
 
@@ -102,11 +127,12 @@ fn take_option(line: Line, command: Command, turn: Turn, part: Part, index: usiz
     if given {
         return line.with_stage(Stage::Wrong(Mistake::Twice(index)));
     }
-    let alone = is_alone(kind_of(part));
+    let values = values_of(part);
+    let alone = is_alone(values);
     if alone {
         return line.kept(part, Given::Alone, Stage::Takes(command, turn));
     }
-    line.with_stage(Stage::Awaits(command, turn, part))
+    line.with_stage(awaiting(command, turn, values))
 }
 
 // A word that begins with -.
@@ -159,6 +185,18 @@ fn take_next(line: Line, command: Command, turn: Turn, word: &[u8], index: usize
     take_turn(line, command, turn, word, index)
 }
 
+// The value of an option. A word that begins with - is none, so that an option whose value was left out does not take the next option for it;
+// a file with such a name is written ./-name.
+fn take_awaited(line: Line, after: Stage, part: Part, word: &[u8], index: usize) -> Line
+    ensures { λ r. ⌜ r ≡ takeAwaited line after part (now (word .entry)) index ⌝ }
+{
+    let dashed = is_dashed(word);
+    if dashed {
+        return line.with_stage(Stage::Wrong(Mistake::NoValue(part)));
+    }
+    take_value(line, after, part, word, index)
+}
+
 pub fn take(line: Line, word: &[u8], index: usize) -> Line
     ensures { λ r. ⌜ r ≡ takeWord line (now (word .entry)) index ⌝ }
 {
@@ -166,9 +204,22 @@ pub fn take(line: Line, word: &[u8], index: usize) -> Line
     match stage {
         Stage::Start => take_command(line, word, index),
         Stage::Takes(command, turn) => take_next(line, command, turn, word, index),
-        Stage::Awaits(command, turn, part) => {
-            take_value(line, Stage::Takes(command, turn), part, word, index)
+        Stage::Awaits(command, turn, part, more) => {
+            take_awaited(line, awaiting(command, turn, more), part, word, index)
         }
+        Stage::Wrong(_) => line,
+    }
+}
+
+// A word that was too long to be read.
+pub fn overlong(line: Line, index: usize) -> Line
+    ensures { λ r. ⌜ r ≡ takeOverlong line index ⌝ }
+{
+    let stage = line.stage;
+    match stage {
+        Stage::Start => line.with_stage(Stage::Wrong(Mistake::WordTooLong(index))),
+        Stage::Takes(_, _) => line.with_stage(Stage::Wrong(Mistake::WordTooLong(index))),
+        Stage::Awaits(_, _, _, _) => line.with_stage(Stage::Wrong(Mistake::WordTooLong(index))),
         Stage::Wrong(_) => line,
     }
 }

@@ -19,4 +19,6 @@ command-named-spec =
     (λ c. ap commandAt (sym (c .match .keys3) ∙ c .before .number-of .ensures))
     (λ c. ap commandAt (sym (c .match .keys4) ∙ c .before .number-of .ensures))
     (λ c. ap commandAt (sym (c .match .keys5) ∙ c .before .number-of .ensures))
+    (λ c. ap commandAt (sym (c .match .keys6) ∙ c .before .number-of .ensures))
+    (λ c. ap commandAt (sym (c .match .keys7) ∙ c .before .number-of .ensures))
     (λ c. no-line Unknown commands _ (c .match .rest) ∙ ap commandAt (c .before .number-of .ensures)))
