@@ -1,0 +1,2 @@
+-- Laws of the course of a step.
+pub mod Points

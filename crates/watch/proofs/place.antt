@@ -1,0 +1,2 @@
+-- Laws of where an instruction writes.
+pub mod Addresses

@@ -1,0 +1,2 @@
+-- Laws of why a watch ends.
+pub mod Window
