@@ -1,3 +1,4 @@
+// SPDX-License-Identifier: MIT
 //! A tour: power-on, a run, a routine that passes the screen, one that does not. `cargo run --example tour`
 
 use phkarotuk::{screen, Cpu, Memory};
@@ -6,6 +7,7 @@ fn main() {
     let mut memory = Memory::new();
     // LD A,45  ADD A,38  DAA  JR to itself
     memory[0x0100..0x0107].copy_from_slice(&[0x3E, 0x45, 0xC6, 0x38, 0x27, 0x18, 0xFE]);
+    println!("archive: {}", phkarotuk::version());
     let mut cpu = Cpu::dmg();
     println!("power-on: SP={:04X} PC={:04X}", cpu.registers.sp, cpu.registers.pc);
     let answer = cpu.run(&mut memory, 1000);

@@ -1,11 +1,13 @@
+// SPDX-License-Identifier: MIT
 //! The processor's state, and a step and a run of it.
 
-use crate::{blocks, Answer};
-use std::{error, fmt};
+use crate::{blocks, Answer, ONE_BUILD};
+use core::{fmt, ops};
 
 /// The registers.
 #[derive(Clone, Copy, PartialEq, Eq, Debug, Default)]
 #[allow(missing_docs)] // the names are the processor's
+#[non_exhaustive]
 pub struct Registers {
     pub a: u8,
     pub f: u8,
@@ -19,19 +21,19 @@ pub struct Registers {
     pub pc: u16,
 }
 
-impl Registers {
-    fn after_boot(af: u16, bc: u16, de: u16, hl: u16) -> Registers {
-        let ([a, f], [b, c], [d, e], [h, l]) = (af.to_be_bytes(), bc.to_be_bytes(), de.to_be_bytes(), hl.to_be_bytes());
-        Registers { a, f, b, c, d, e, h, l, sp: 0xFFFE, pc: 0x0100 }
-    }
+/// Bytes of the registers at the front of a state block.
+const REGISTERS: usize = 12;
+/// Where the reserved bytes begin.
+const RESERVED: usize = 18;
 
-    /// From bytes 0 to 11 of a state block.
+impl Registers {
+    /// From the front of a state block.
     pub(crate) fn read(block: &[u8]) -> Registers {
         let (sp, pc) = (blocks::word(block, 8), blocks::word(block, 10));
         Registers { a: block[0], f: block[1], b: block[2], c: block[3], d: block[4], e: block[5], h: block[6], l: block[7], sp, pc }
     }
 
-    fn bytes(&self) -> [u8; 12] {
+    fn bytes(&self) -> [u8; REGISTERS] {
         let ([sp_low, sp_high], [pc_low, pc_high]) = (self.sp.to_le_bytes(), self.pc.to_le_bytes());
         [self.a, self.f, self.b, self.c, self.d, self.e, self.h, self.l, sp_low, sp_high, pc_low, pc_high]
     }
@@ -39,6 +41,7 @@ impl Registers {
 
 /// Whether the processor is halted, and how it wakes.
 #[derive(Clone, Copy, PartialEq, Eq, Debug, Default)]
+#[non_exhaustive]
 pub enum HaltMode {
     /// Awake.
     #[default]
@@ -51,8 +54,23 @@ pub enum HaltMode {
     HaltBug,
 }
 
+/// What is powered on.
+#[derive(Clone, Copy, PartialEq, Eq, Debug)]
+#[non_exhaustive]
+pub enum Model {
+    /// A DMG, as its boot ROM leaves it.
+    Dmg = 0,
+    /// A CGB with a CGB cartridge, as its boot ROM leaves it.
+    Cgb = 1,
+    /// A CGB with a DMG cartridge, as its boot ROM leaves it.
+    CgbDmg = 2,
+    /// A DMG without a boot skip: every register 0. ([`Cpu::default`] is that of a CGB.)
+    Zero = 3,
+}
+
 /// The whole state. [`Cpu::default`] is the one without a boot skip, on a CGB.
 #[derive(Clone, Copy, PartialEq, Eq, Debug, Default)]
+#[non_exhaustive]
 pub struct Cpu {
     /// The registers.
     pub registers: Registers,
@@ -68,36 +86,90 @@ pub struct Cpu {
     pub hdma: bool,
     /// A DMG; else a CGB.
     pub dmg: bool,
-    /// Bytes 18 to 23 of the block: neither looked at nor changed by the core.
-    pub reserved: [u8; 6],
+    /// The end of the block: neither looked at nor changed by a step or a run, and carried along.
+    reserved: [u8; blocks::STATE_SIZE - RESERVED],
 }
 
-/// A state block with a flag that is neither 0 nor 1, or a halt mode above 3; holds the byte's place.
+/// A state as the bytes of `phkarotuk.h`; it is used as the slice that it derefs to.
 #[derive(Clone, Copy, PartialEq, Eq, Debug)]
-pub struct Malformed(pub usize);
+pub struct StateBlock([u8; blocks::STATE_SIZE]);
+
+impl ops::Deref for StateBlock {
+    type Target = [u8];
+    fn deref(&self) -> &[u8] {
+        &self.0
+    }
+}
+
+impl ops::DerefMut for StateBlock {
+    fn deref_mut(&mut self) -> &mut [u8] {
+        &mut self.0
+    }
+}
+
+/// What is no state block.
+#[derive(Clone, Copy, PartialEq, Eq, Debug)]
+#[non_exhaustive]
+pub enum Malformed {
+    /// Its length is not [`blocks::STATE_SIZE`] but this.
+    Length(usize),
+    /// The byte there is a flag that is neither 0 nor 1, or a halt mode above 3.
+    Byte(usize),
+}
 
 impl Cpu {
+    /// The state at power-on.
+    ///
+    /// # Panics
+    ///
+    /// Only if the archive is not of this crate's build ([`version`](crate::version)).
+    pub fn power_on(model: Model) -> Cpu {
+        let mut state = [0; blocks::STATE_SIZE];
+        assert_eq!(blocks::power_on(&mut state, model as u16), 0, "{ONE_BUILD}");
+        Cpu::from_block(&state).expect(ONE_BUILD)
+    }
+
     /// As the boot ROM of a DMG leaves it.
+    ///
+    /// # Panics
+    ///
+    /// As [`Cpu::power_on`].
     pub fn dmg() -> Cpu {
-        Cpu { registers: Registers::after_boot(0x01B0, 0x0013, 0x00D8, 0x014D), dmg: true, ..Cpu::default() }
+        Cpu::power_on(Model::Dmg)
     }
 
     /// As the boot ROM of a CGB leaves it for a CGB cartridge.
+    ///
+    /// # Panics
+    ///
+    /// As [`Cpu::power_on`].
     pub fn cgb() -> Cpu {
-        Cpu { registers: Registers::after_boot(0x1180, 0x0000, 0xFF56, 0x000D), ..Cpu::default() }
+        Cpu::power_on(Model::Cgb)
     }
 
     /// As the boot ROM of a CGB leaves it for a DMG cartridge.
+    ///
+    /// # Panics
+    ///
+    /// As [`Cpu::power_on`].
     pub fn cgb_dmg() -> Cpu {
-        Cpu { registers: Registers::after_boot(0x1180, 0x0000, 0x0008, 0x007C), ..Cpu::default() }
+        Cpu::power_on(Model::CgbDmg)
     }
 
     /// One step.
+    ///
+    /// # Panics
+    ///
+    /// Only if the archive is not of this crate's build ([`version`](crate::version)).
     pub fn step(&mut self, mem: &mut [u8]) -> Answer {
         self.by_block(|state, answer| blocks::step(state, mem, answer))
     }
 
     /// Up to `budget` steps; stops early only after InfiniteLoop, Breakpoint, Stopped or a refusal.
+    ///
+    /// # Panics
+    ///
+    /// Only if the archive is not of this crate's build ([`version`](crate::version)).
     pub fn run(&mut self, mem: &mut [u8], budget: u16) -> Answer {
         self.by_block(|state, answer| blocks::run(state, mem, budget, answer))
     }
@@ -107,28 +179,37 @@ impl Cpu {
         let mut answer = [0; blocks::ANSWER_SIZE];
         let number = call(&mut state, &mut answer);
         // no state of this type makes a malformed block: see `to_block`
-        assert_ne!(number, blocks::MALFORMED, "libphkarotuk.a has another layout: take the crate and the archive from one revision");
-        *self = Cpu::from_block(&state).expect("the core writes well-formed blocks");
+        assert_ne!(number, blocks::MALFORMED, "{ONE_BUILD}");
+        *self = Cpu::from_block(&state).expect(ONE_BUILD);
         Answer::read(&answer)
     }
 
-    /// The state as the 24 bytes of `include/phkarotuk.h`.
-    pub fn to_block(&self) -> [u8; blocks::STATE_SIZE] {
+    /// The state as the bytes of `phkarotuk.h`.
+    pub fn to_block(&self) -> StateBlock {
         let mut block = [0; blocks::STATE_SIZE];
-        block[..12].copy_from_slice(&self.registers.bytes());
+        block[..REGISTERS].copy_from_slice(&self.registers.bytes());
         let flags = [self.ime.into(), self.ei_latch.into(), self.halt as u8, self.stopped.into(), self.hdma.into(), self.dmg.into()];
-        block[12..18].copy_from_slice(&flags);
-        block[18..].copy_from_slice(&self.reserved);
-        block
+        block[REGISTERS..RESERVED].copy_from_slice(&flags);
+        block[RESERVED..].copy_from_slice(&self.reserved);
+        StateBlock(block)
     }
 
-    /// The state that 24 bytes hold, or the first byte that makes them malformed.
-    pub fn from_block(block: &[u8; blocks::STATE_SIZE]) -> Result<Cpu, Malformed> {
+    /// The state that the bytes hold.
+    ///
+    /// # Errors
+    ///
+    /// [`Malformed`] if they are no state block: their length, or the first byte that makes them malformed.
+    pub fn from_block(block: &[u8]) -> Result<Cpu, Malformed> {
+        if block.len() != blocks::STATE_SIZE {
+            return Err(Malformed::Length(block.len()));
+        }
         let flag = |at: usize| match block[at] {
             0 => Ok(false),
             1 => Ok(true),
-            _ => Err(Malformed(at)),
+            _ => Err(Malformed::Byte(at)),
         };
+        let mut reserved = [0; blocks::STATE_SIZE - RESERVED];
+        reserved.copy_from_slice(&block[RESERVED..]);
         Ok(Cpu {
             registers: Registers::read(block),
             ime: flag(12)?,
@@ -138,21 +219,27 @@ impl Cpu {
                 1 => HaltMode::HaltRunInterrupt,
                 2 => HaltMode::HaltNoRunInterrupt,
                 3 => HaltMode::HaltBug,
-                _ => return Err(Malformed(14)),
+                _ => return Err(Malformed::Byte(14)),
             },
             stopped: flag(15)?,
             hdma: flag(16)?,
             dmg: flag(17)?,
-            reserved: [block[18], block[19], block[20], block[21], block[22], block[23]],
+            reserved,
         })
     }
 }
 
 impl fmt::Display for Malformed {
     fn fmt(&self, to: &mut fmt::Formatter<'_>) -> fmt::Result {
-        let most = if self.0 == 14 { 3 } else { 1 };
-        write!(to, "byte {} of the state block is above {most}: see include/phkarotuk.h for what stands there", self.0)
+        match *self {
+            Malformed::Length(length) => write!(to, "a state block has {} bytes, and this one {length}", blocks::STATE_SIZE),
+            Malformed::Byte(at) => {
+                let most = if at == 14 { 3 } else { 1 };
+                write!(to, "byte {at} of the state block is above {most}: see phkarotuk.h for what stands there")
+            }
+        }
     }
 }
 
-impl error::Error for Malformed {}
+#[cfg(feature = "std")]
+impl std::error::Error for Malformed {}

@@ -1,31 +1,39 @@
+// SPDX-License-Identifier: MIT
 //! Plain memory: 65,536 bytes.
 
-use std::{error, fmt, ops};
+use crate::blocks;
+use alloc::{boxed::Box, vec};
+use core::{fmt, ops};
 
 /// The 65,536 bytes that the core runs on. It is used as the slice that it derefs to; the core takes any lent slice and
 /// refuses one of another length ([`Refusal::MemoryLength`](crate::Refusal::MemoryLength)).
 #[derive(Clone, PartialEq, Eq)]
 pub struct Memory(Box<[u8]>);
 
-/// An image that is not 65,536 bytes long; holds its length.
+/// An image that is not 65,536 bytes long.
 #[derive(Clone, Copy, PartialEq, Eq, Debug)]
-pub struct WrongLength(pub usize);
+#[non_exhaustive]
+pub struct WrongLength {
+    /// How long it is.
+    pub length: usize,
+}
 
 impl Memory {
-    /// Bytes of a memory.
-    pub const SIZE: usize = 65536;
-
     /// Every byte 0.
     pub fn new() -> Memory {
-        Memory(vec![0; Memory::SIZE].into_boxed_slice())
+        Memory(vec![0; blocks::MEMORY_SIZE].into_boxed_slice())
     }
 
-    /// A dump as it came; [`WrongLength`] if it is not 65,536 bytes long.
+    /// A dump as it came.
+    ///
+    /// # Errors
+    ///
+    /// [`WrongLength`] if it is not 65,536 bytes long.
     pub fn from_image(image: &[u8]) -> Result<Memory, WrongLength> {
-        if image.len() == Memory::SIZE {
+        if image.len() == blocks::MEMORY_SIZE {
             Ok(Memory(image.into()))
         } else {
-            Err(WrongLength(image.len()))
+            Err(WrongLength { length: image.len() })
         }
     }
 }
@@ -51,14 +59,15 @@ impl ops::DerefMut for Memory {
 
 impl fmt::Debug for Memory {
     fn fmt(&self, to: &mut fmt::Formatter<'_>) -> fmt::Result {
-        write!(to, "Memory of {} bytes", Memory::SIZE)
+        write!(to, "Memory of {} bytes", self.len())
     }
 }
 
 impl fmt::Display for WrongLength {
     fn fmt(&self, to: &mut fmt::Formatter<'_>) -> fmt::Result {
-        write!(to, "the image has {} bytes, not 65,536: take the dump again, of the whole address space", self.0)
+        write!(to, "the image has {} bytes, not 65,536: take the dump again, of the whole address space", self.length)
     }
 }
 
-impl error::Error for WrongLength {}
+#[cfg(feature = "std")]
+impl std::error::Error for WrongLength {}

@@ -1,7 +1,8 @@
+// SPDX-License-Identifier: MIT
 //! What the core answers, by the document's numbers.
 
-use crate::{blocks, cpu::Registers};
-use std::fmt;
+use crate::{blocks, cpu::Registers, ONE_BUILD};
+use core::fmt;
 
 /// A kind of refusal: for each its case, the document's number and words ("When the core says no" of docs/01-scope.md).
 macro_rules! refusals {
@@ -9,6 +10,7 @@ macro_rules! refusals {
         $(#[$about])*
         #[derive(Clone, Copy, PartialEq, Eq, Debug)]
         #[allow(missing_docs)] // each case's words are in `Display`
+        #[non_exhaustive]
         pub enum $kind {
             $($case = $number,)*
         }
@@ -27,7 +29,7 @@ macro_rules! refusals {
             pub(crate) fn numbered(number: u16) -> $kind {
                 match $kind::ALL.iter().find(|refusal| u16::from(refusal.number()) == number) {
                     Some(refusal) => *refusal,
-                    None => panic!("libphkarotuk.a answers refusal {number}, which this crate does not know: take the crate and the archive from one revision"),
+                    None => panic!("refusal {number} is not known here; {ONE_BUILD}"),
                 }
             }
         }
@@ -57,7 +59,7 @@ refusals! {
     ScreenRefusal {
         MemoryLength = 1, "memory is not 65,536 bytes long";
         WindowReversed = 4, "the window's first address is above its last";
-        WindowTooLong = 5, "the window is too long";
+        WindowTooLong = 5, "the window is longer than 4,096 bytes";
         MarksLength = 6, "the marks are not as long as the window";
         ForbiddenOpcode = 7, "forbidden opcode";
         PastTheEnd = 8, "an instruction runs past the window's end";
@@ -69,6 +71,7 @@ refusals! {
 /// The five interrupts, by the names of the Rust; each goes to its vector.
 #[derive(Clone, Copy, PartialEq, Eq, Debug)]
 #[allow(missing_docs)] // the names say it
+#[non_exhaustive]
 pub enum InterruptType {
     Vblank,
     LcdStat,
@@ -79,8 +82,8 @@ pub enum InterruptType {
 
 impl InterruptType {
     /// All of them, in the order of their numbers, 0 to 4.
-    pub const ALL: [InterruptType; 5] =
-        [InterruptType::Vblank, InterruptType::LcdStat, InterruptType::Timer, InterruptType::Serial, InterruptType::Joypad];
+    pub const ALL: &'static [InterruptType] =
+        &[InterruptType::Vblank, InterruptType::LcdStat, InterruptType::Timer, InterruptType::Serial, InterruptType::Joypad];
 
     /// The document's number.
     pub fn number(self) -> u8 {
@@ -90,6 +93,7 @@ impl InterruptType {
 
 /// How a step, or the last step of a run, ended.
 #[derive(Clone, Copy, PartialEq, Eq, Debug)]
+#[non_exhaustive]
 pub enum Outcome {
     /// An instruction ran.
     Normal,
@@ -113,6 +117,7 @@ pub enum Outcome {
 
 /// What a step or a run answers.
 #[derive(Clone, Copy, PartialEq, Eq, Debug)]
+#[non_exhaustive]
 pub struct Answer {
     /// How it ended.
     pub outcome: Outcome,

@@ -1,10 +1,13 @@
+// SPDX-License-Identifier: MIT
 //! The demo's image (demo/label.lst): each routine's verdict as the listing announces it, the drawn line against one drawn here, and what the listing says that a technician sees.
 
-use phkarotuk::{screen, Cpu, Memory, Outcome, Refused, ScreenRefusal};
+#![cfg(feature = "alloc")]
 
+use phkarotuk::{screen, Cpu, Memory, Outcome, ScreenRefusal};
+
+/// demo/label.bin of the repository; `examples/rust/run` compares the two.
 fn image() -> Memory {
-    let path = concat!(env!("CARGO_MANIFEST_DIR"), "/../../demo/label.bin");
-    Memory::from_image(&std::fs::read(path).expect("demo/label.bin is in the repository")).expect("demo/build writes 65,536 bytes")
+    Memory::from_image(include_bytes!("label.bin")).expect("demo/build writes 65,536 bytes")
 }
 
 /// A DMG whose PC is there, with a stack as main sets it.
@@ -32,11 +35,15 @@ fn the_renderer_passes() {
 
 #[test]
 fn each_broken_routine_is_refused_as_announced() {
-    let refused = |refusal, address| Err(Refused { refusal, address: Some(address) });
-    assert_eq!(screen(&image(), 0x0300, 0x030B), refused(ScreenRefusal::ForbiddenOpcode, 0x0306));
-    assert_eq!(screen(&image(), 0x7FF4, 0x7FFF), refused(ScreenRefusal::PastTheEnd, 0x7FFF));
-    assert_eq!(screen(&image(), 0x0320, 0x032A), refused(ScreenRefusal::FallsThrough, 0x0329));
-    assert_eq!(screen(&image(), 0x0340, 0x034C), refused(ScreenRefusal::JumpUnmarked, 0x034A));
+    for (first, last, refusal, address) in [
+        (0x0300, 0x030B, ScreenRefusal::ForbiddenOpcode, 0x0306),
+        (0x7FF4, 0x7FFF, ScreenRefusal::PastTheEnd, 0x7FFF),
+        (0x0320, 0x032A, ScreenRefusal::FallsThrough, 0x0329),
+        (0x0340, 0x034C, ScreenRefusal::JumpUnmarked, 0x034A),
+    ] {
+        let refused = screen(&image(), first, last).expect_err("it is broken");
+        assert_eq!((refused.refusal, refused.address), (refusal, Some(address)));
+    }
 }
 
 #[test]

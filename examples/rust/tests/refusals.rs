@@ -1,6 +1,9 @@
+// SPDX-License-Identifier: MIT
 //! "When the core says no" of docs/01-scope.md, and the malformed blocks of docs/DECISIONS.md: the number, and that nothing is changed.
 
-use phkarotuk::{blocks, screen, Cpu, Malformed, Memory, Outcome, Refusal, Refused, ScreenRefusal, WrongLength};
+#![cfg(feature = "alloc")]
+
+use phkarotuk::{blocks, screen, Cpu, Malformed, Memory, Model, Outcome, Refusal, ScreenRefusal};
 
 /// A block of bytes that tells whether one of them was changed.
 fn pattern(size: usize) -> Vec<u8> {
@@ -18,7 +21,8 @@ fn memory_of_another_length() {
             assert_eq!((answer.outcome, answer.steps, answer.m_cycles), (Outcome::Refused(Refusal::MemoryLength), 0, 0));
             assert_eq!((cpu, memory), (before, pattern(size)));
         }
-        assert_eq!(screen(&pattern(size), 2, 1), Err(Refused { refusal: ScreenRefusal::MemoryLength, address: None }));
+        let refused = screen(&pattern(size), 2, 1).expect_err("1 is tested first");
+        assert_eq!((refused.refusal, refused.address), (ScreenRefusal::MemoryLength, None));
     }
 }
 
@@ -96,17 +100,32 @@ fn a_malformed_block_changes_nothing() {
 
 #[test]
 fn reserved_bytes_are_kept() {
-    let (mut cpu, mut memory) = (Cpu::dmg(), Memory::new());
-    cpu.reserved = [1, 2, 3, 4, 5, 6];
+    let (mut block, mut memory) = (Cpu::dmg().to_block(), Memory::new());
+    block[18..].copy_from_slice(&[1, 2, 3, 4, 5, 6]);
+    let mut cpu = Cpu::from_block(&block).expect("any byte may be reserved");
     assert_eq!(cpu.run(&mut memory, 100).steps, 100);
-    assert_eq!(cpu.reserved, [1, 2, 3, 4, 5, 6]);
+    assert_eq!(cpu.to_block()[18..], [1, 2, 3, 4, 5, 6]);
+}
+
+#[test]
+fn power_on_writes_all_or_nothing() {
+    for model in [Model::Dmg, Model::Cgb, Model::CgbDmg, Model::Zero] {
+        let mut block = pattern(24);
+        assert_eq!(blocks::power_on(&mut block, model as u16), 0);
+        assert_eq!(block, Cpu::power_on(model).to_block().to_vec());
+    }
+    for (size, model) in [(0, 0), (23, 0), (25, 0), (24, 4), (24, 256), (24, 65535)] {
+        let mut block = pattern(size);
+        assert_eq!((blocks::power_on(&mut block, model), block), (blocks::MALFORMED, pattern(size)));
+    }
 }
 
 #[test]
 fn what_the_wrapper_itself_refuses() {
-    assert_eq!(Memory::from_image(&[0; 100]), Err(WrongLength(100)));
+    assert_eq!(Memory::from_image(&[0; 100]).expect_err("100 bytes").length, 100);
     let mut block = Cpu::dmg().to_block();
     assert_eq!(Cpu::from_block(&block), Ok(Cpu::dmg()));
     block[14] = 4;
-    assert_eq!(Cpu::from_block(&block), Err(Malformed(14)));
+    assert_eq!(Cpu::from_block(&block), Err(Malformed::Byte(14)));
+    assert_eq!(Cpu::from_block(&block[..23]), Err(Malformed::Length(23)));
 }

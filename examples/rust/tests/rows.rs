@@ -1,8 +1,10 @@
+// SPDX-License-Identifier: MIT
 //! "Rows to be worked" of docs/01-scope.md, on the linked core.
 
-use phkarotuk::{screen, Cpu, HaltMode, InterruptType, Memory, Outcome, Refusal, Refused, ScreenRefusal};
+#![cfg(feature = "alloc")]
 
-const Z: u8 = 0x80;
+use phkarotuk::{screen, Cpu, HaltMode, InterruptType, Memory, Model, Outcome, Refusal, ScreenRefusal};
+
 const H: u8 = 0x20;
 const C: u8 = 0x10;
 
@@ -86,7 +88,8 @@ fn an_interrupt_that_its_own_push_allows() {
 
 #[test]
 fn each_interrupt_goes_to_its_vector() {
-    for (interrupt, vector) in InterruptType::ALL.into_iter().zip([0x40, 0x48, 0x50, 0x58, 0x60]) {
+    assert_eq!(InterruptType::ALL.len(), 5);
+    for (&interrupt, vector) in InterruptType::ALL.iter().zip([0x40, 0x48, 0x50, 0x58, 0x60]) {
         let (mut cpu, mut memory) = at(0xC000, &[]);
         cpu.ime = true;
         memory[0xFFFF] = 0x1F;
@@ -150,7 +153,8 @@ fn windows_that_are_refused() {
     for (bytes, refusal) in rows {
         let (_, memory) = at(0xC000, bytes);
         let last = 0xC000 + bytes.len() as u16 - 1;
-        assert_eq!(screen(&memory, 0xC000, last), Err(Refused { refusal, address: Some(0xC000) }), "{bytes:02X?}");
+        let refused = screen(&memory, 0xC000, last).expect_err("the document refuses it");
+        assert_eq!((refused.refusal, refused.address), (refusal, Some(0xC000)), "{bytes:02X?}");
     }
 }
 
@@ -160,20 +164,25 @@ fn the_longest_window() {
     memory[0x0FFF] = 0xC9; // 4,095 NOPs and a RET
     assert!(screen(&memory, 0x0000, 0x0FFF).is_ok());
     memory[0x1000] = 0xC9;
-    assert_eq!(screen(&memory, 0x0000, 0x1000), Err(Refused { refusal: ScreenRefusal::WindowTooLong, address: None }));
+    let refused = screen(&memory, 0x0000, 0x1000).expect_err("4,097 bytes");
+    assert_eq!((refused.refusal, refused.address), (ScreenRefusal::WindowTooLong, None));
 }
 
+/// "Power-on from 000, with SP 0xFFFE and PC 0x0100", and "The state without a boot skip has every register 0"
 #[test]
 fn power_on() {
-    let pairs = |cpu: Cpu| {
+    let rows = [
+        (Cpu::dmg(), [0x01B0, 0x0013, 0x00D8, 0x014D, 0xFFFE, 0x0100], true),
+        (Cpu::cgb(), [0x1180, 0x0000, 0xFF56, 0x000D, 0xFFFE, 0x0100], false),
+        (Cpu::cgb_dmg(), [0x1180, 0x0000, 0x0008, 0x007C, 0xFFFE, 0x0100], false),
+        (Cpu::power_on(Model::Zero), [0; 6], true),
+        (Cpu::default(), [0; 6], false),
+    ];
+    for (cpu, [af, bc, de, hl, sp, pc], dmg) in rows {
         let r = cpu.registers;
-        [[r.a, r.f], [r.b, r.c], [r.d, r.e], [r.h, r.l]].map(u16::from_be_bytes)
-    };
-    assert_eq!(pairs(Cpu::dmg()), [0x01B0, 0x0013, 0x00D8, 0x014D]);
-    assert_eq!(pairs(Cpu::cgb()), [0x1180, 0x0000, 0xFF56, 0x000D]);
-    assert_eq!(pairs(Cpu::cgb_dmg()), [0x1180, 0x0000, 0x0008, 0x007C]);
-    for cpu in [Cpu::dmg(), Cpu::cgb(), Cpu::cgb_dmg()] {
-        assert_eq!((cpu.registers.sp, cpu.registers.pc, cpu.registers.f & !(Z | H | C)), (0xFFFE, 0x0100, 0));
+        let pairs = [[r.a, r.f], [r.b, r.c], [r.d, r.e], [r.h, r.l]].map(u16::from_be_bytes);
+        assert_eq!((pairs, r.sp, r.pc), ([af, bc, de, hl], sp, pc));
+        assert_eq!((cpu.ime, cpu.ei_latch, cpu.halt, cpu.stopped, cpu.hdma, cpu.dmg), (false, false, HaltMode::NotHalting, false, false, dmg));
+        assert_eq!(cpu.to_block()[18..], [0; 6]);
     }
-    assert_eq!(Cpu::default().to_block(), [0; 24]);
 }

@@ -1,0 +1,9 @@
+# SPDX-License-Identifier: MIT
+# any version with the same first number that is not older than the one asked for
+set(PACKAGE_VERSION 1.0.0)
+if(PACKAGE_FIND_VERSION_MAJOR STREQUAL "1" AND NOT PACKAGE_FIND_VERSION VERSION_GREATER PACKAGE_VERSION)
+    set(PACKAGE_VERSION_COMPATIBLE TRUE)
+    if(PACKAGE_FIND_VERSION VERSION_EQUAL PACKAGE_VERSION)
+        set(PACKAGE_VERSION_EXACT TRUE)
+    endif()
+endif()
