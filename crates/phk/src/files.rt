@@ -1,12 +1,12 @@
-// The image is read, and memory is written to a new file that is renamed into place.
+// The image is read.
 ghost use mathlib.Core.Path.{_≡_};
 ghost use Prim.Native.Nat.{_-_};
 ghost use Rattle.phk.specs.Images.{imageOf, isLoaded};
 use crate::mistakes;
-use crate::page::within;
+use crate::view::Held;
+use crate::view::is_whole;
 use commandline::grammar::Part;
 use commandline::line::Line;
-use text::page::put;
 
 fn length_of(n: usize) -> u64
     ensures { λ r. ⌜ r ≡ n ⌝ }
@@ -67,7 +67,7 @@ fn tell_image(image: Image, path: &[u8], n: usize, from: u16) {
         Image::Unreadable => mistakes::unreadable(path),
         Image::TooLong => mistakes::too_long(path, length_of(room_from(from))),
         Image::TooShort => mistakes::too_short(path, length_of(n)),
-        Image::Part => mistakes::part(path, length_of(n), from),
+        Image::Part => {}
         Image::Whole => {}
     }
 }
@@ -84,26 +84,44 @@ fn read_part(fd: i32, mem: &mut [u8], from: usize) -> usize {
     0
 }
 
-fn load_from(fd: i32, path: &[u8], mem: &mut [u8], given: bool, from: u16) -> bool {
+// Whether the image was read, and which bytes of memory it has.
+pub struct Loaded {
+    pub done: bool,
+    pub held: Held,
+}
+
+fn as_loaded(done: bool, from: u16, n: usize) -> Loaded {
+    let length = if n < 65536 { n as u32 } else { 65536 };
+    let held = Held {
+        from: from,
+        length: length,
+    };
+    Loaded {
+        done: done,
+        held: held,
+    }
+}
+
+fn load_from(fd: i32, path: &[u8], mem: &mut [u8], given: bool, from: u16) -> Loaded {
     let n = read_part(fd, mem, from as usize);
     let got = read_on(fd);
     let image = image_of(got < 0, 0 < got, given, n);
     tell_image(image, path, n, from);
-    is_loaded(image)
+    as_loaded(is_loaded(image), from, n)
 }
 
-fn load_named(path: &[u8], mem: &mut [u8], given: bool, from: u16) -> bool {
+fn load_named(path: &[u8], mem: &mut [u8], given: bool, from: u16) -> Loaded {
     let fd = os::open_read(path);
     if fd < 0 {
         mistakes::unreadable(path);
-        return false;
+        return as_loaded(false, from, 0);
     }
     let done = load_from(fd, path, mem, given, from);
     libc::close(fd);
     done
 }
 
-pub fn load(line: Line, mem: &mut [u8]) -> bool {
+pub fn load(line: Line, mem: &mut [u8]) -> Loaded {
     let mut path = io::buffer();
     let n = os::arg(line.word(Part::Image, 0), &mut path);
     load_named(
@@ -114,65 +132,11 @@ pub fn load(line: Line, mem: &mut [u8]) -> bool {
     )
 }
 
-// All bytes, to the disk.
-fn fill(fd: i32, mem: &[u8]) -> bool {
-    let written = io::write_all(fd, mem);
-    let kept = libc::fsync(fd);
-    let closed = libc::close(fd);
-    if closed < 0 {
-        return false;
-    }
-    if kept < 0 {
-        return false;
-    }
-    written
-}
-
-// The launcher hears the name of the new file first, so that it can remove it if the program is stopped in between.
-fn tell(tells: bool, path: &[u8]) {
-    if tells {
-        io::write_all(3, b"+");
-        io::write_all(3, path);
-        io::write_all(3, b"\n");
-    }
-}
-
-fn save_as(new: &[u8], path: &[u8], mem: &[u8], tells: bool) -> bool {
-    let fd = os::create(new);
-    if fd < 0 {
-        mistakes::unwritable(path);
-        return false;
-    }
-    tell(tells, new);
-    let filled = fill(fd, mem);
-    if !filled {
-        mistakes::unwritable(path);
-        os::unlink(new);
-        return false;
-    }
-    let renamed = os::rename(new, path);
-    if renamed < 0 {
-        mistakes::unwritable(path);
-        os::unlink(new);
-        return false;
-    }
-    true
-}
-
-pub fn save(line: Line, mem: &[u8], tells: bool) -> bool {
+// Of a part of memory, that the rest of it is made up: said once it is clear that what is asked for lies in the part.
+pub fn tell_part(line: Line, held: Held) {
     let mut path = io::buffer();
-    let n = os::arg(line.word(Part::Out, 0), &mut path);
-    save_named(&path[..n], mem, tells)
-}
-
-// The new file's name is the file's with .new- and the program's first word, in which the launcher puts its process's number.
-fn save_named(path: &[u8], mem: &[u8], tells: bool) -> bool {
-    let mut word = io::buffer();
-    let k = os::arg(1, &mut word);
-    let mut new = io::large_buffer();
-    let at = put(&mut new, 0, path);
-    let at = put(&mut new, at, b".new-");
-    let at = put(&mut new, at, &word[..k]);
-    let n = within(&new, at);
-    save_as(&new[..n], path, mem, tells)
+    let n = os::arg(line.word(Part::Image, 0), &mut path);
+    if !is_whole(held) {
+        mistakes::part(&path[..n], held.length as u64, held.from);
+    }
 }

@@ -3,6 +3,7 @@ ghost use mathlib.Core.Path.{_≡_};
 ghost use Rattle.sm83.specs.Basics.{bit};
 use crate::page::fail;
 use crate::page::print;
+use crate::view::Held;
 use commandline::grammar::Part;
 use commandline::line::Mistake;
 use text::lines::line_of;
@@ -12,9 +13,73 @@ pub fn unreadable(path: &[u8]) {
     fail(b"phk: IMAGE '@', expected a file that can be read", path);
 }
 
-pub fn unwritable(path: &[u8]) {
+// What cannot be written to: one line each.
+
+fn out_is(form: &[u8], path: &[u8]) {
+    print(2, b"phk: --out '@': ", &[], path);
+    io::write_all(2, form);
+}
+
+pub fn out_link(path: &[u8]) {
+    out_is(
+        b"a symbolic link; name the file that it leads to, or another\n",
+        path,
+    );
+}
+
+pub fn out_folder(path: &[u8]) {
+    out_is(b"a folder; expected the name of a file\n", path);
+}
+
+pub fn out_no_file(path: &[u8]) {
+    out_is(
+        b"a device, a pipe or a socket; expected a new name or a file\n",
+        path,
+    );
+}
+
+pub fn out_image(path: &[u8]) {
+    out_is(
+        b"this is IMAGE itself, which is never changed; give another name\n",
+        path,
+    );
+}
+
+pub fn out_output(path: &[u8]) {
+    out_is(
+        b"standard output goes to this file, and would be lost with it; give another name\n",
+        path,
+    );
+}
+
+pub fn out_read_only(path: &[u8]) {
+    out_is(
+        b"a file that is read-only; give another name, or make it writable\n",
+        path,
+    );
+}
+
+pub fn out_not_yours(path: &[u8]) {
+    out_is(
+        b"a file of another user, or one that you may not write; give another name\n",
+        path,
+    );
+}
+
+pub fn out_not_made(path: &[u8]) {
+    fail(b"phk: --out '@': no file can be made there", path);
+}
+
+pub fn out_not_filled(path: &[u8]) {
     fail(
-        b"phk: --out '@', expected a name in a folder that can be written to",
+        b"phk: --out '@': not written, since its disk did not take all 65,536 bytes; nothing was changed",
+        path,
+    );
+}
+
+pub fn out_not_placed(path: &[u8]) {
+    fail(
+        b"phk: --out '@': not written, since the new file could not be renamed to this; nothing was changed",
         path,
     );
 }
@@ -59,6 +124,48 @@ pub fn part(path: &[u8], length: u64, from: u16) {
     );
 }
 
+// Which bytes an image has: an empty one has none.
+fn has(held: Held) {
+    if held.length == 0 {
+        io::write_all(2, b"which has no byte");
+    } else {
+        let last = (held.from as u64) + (held.length as u64) - 1;
+        print(2, b"which has # to #", &[held.from as u64, last], b"");
+    }
+}
+
+pub fn window_outside(first: u16, last: u16, held: Held) {
+    print(
+        2,
+        b"phk: the window # to # is not all in IMAGE, ",
+        &[first as u64, last as u64],
+        b"",
+    );
+    has(held);
+    io::write_all(
+        2,
+        b"; give a window inside it, or an image that has the whole routine\n",
+    );
+}
+
+pub fn start_outside(pc: u16, held: Held) {
+    print(
+        2,
+        b"phk: the run would start at #, where the instruction is not all in IMAGE, ",
+        &[pc as u64],
+        b"",
+    );
+    has(held);
+    io::write_all(2, b"; give another start with --pc\n");
+}
+
+pub fn no_demo() {
+    io::write_all(
+        2,
+        b"phk: demo is shown by the command ./phk, and not by the program under it\n",
+    );
+}
+
 // What a person wrote, between quotes; nothing if it is empty.
 fn quoted(word: &[u8]) {
     if 0 < word.len() {
@@ -81,15 +188,25 @@ fn name_of(part: Part) {
         Part::Image => told(b" IMAGE"),
         Part::First => told(b" FIRST"),
         Part::Last => told(b" LAST"),
+        Part::Address => told(b" ADDRESS"),
+        Part::Count => told(b" COUNT"),
+        Part::Topic => told(b" COMMAND"),
         Part::At => told(b" --at"),
         Part::State => told(b" --state"),
         Part::Pc => told(b" --pc"),
         Part::Sp => told(b" --sp"),
+        Part::Af => told(b" --af"),
+        Part::Bc => told(b" --bc"),
+        Part::De => told(b" --de"),
+        Part::Hl => told(b" --hl"),
+        Part::Ime => told(b" --ime"),
+        Part::Ei => told(b" --ei"),
         Part::Steps => told(b" --steps"),
         Part::Out => told(b" --out"),
         Part::Marks => told(b" --marks"),
         Part::Map => told(b" --map"),
         Part::Trace => told(b" --trace"),
+        Part::Stack => told(b" --stack"),
         Part::Help => told(b" --help"),
     }
 }
@@ -107,6 +224,11 @@ fn named_alone(part: Part) {
     told(b":");
 }
 
+// A word by its number, the command being the first: too long to be shown.
+fn numbered(index: usize) {
+    print(2, b" word %:", &[index as u64], b"");
+}
+
 // What a mistake is about: a word, a part, or what was given for one.
 fn subject(mistake: Mistake) {
     match mistake {
@@ -122,6 +244,7 @@ fn subject(mistake: Mistake) {
         Mistake::Reversed => named_alone(Part::First),
         Mistake::BadNumber(part, index, _) => named(part, index),
         Mistake::AddressTooLarge(part, index) => named(part, index),
+        Mistake::WordTooLong(index) => numbered(index),
     }
 }
 
@@ -132,18 +255,21 @@ fn said(text: &[u8]) {
 // Why a word is no number.
 fn fault_of(fault: Fault) {
     match fault {
-        Fault::Empty => said(b"an empty word is no number; expected one such as 336 or 0x0150"),
+        Fault::Empty => said(
+            b"an empty word is no number; expected an address such as 0150, or for a count one such as 336",
+        ),
         Fault::NotADigit => said(
-            b"this is no number; expected a decimal one such as 336 or a hexadecimal one such as 0x0150",
+            b"this is no number; expected an address such as 0150 or 0x150, or for a count one such as 336",
         ),
-        Fault::HAtTheEnd => said(
-            b"an h marks no number here; write hexadecimal with 0x in front, as 0x0150",
-        ),
+        Fault::HAtTheEnd => said(b"an h marks no number here; write an address as 0150 or 0x150"),
         Fault::HexWithoutPrefix => said(
-            b"a hexadecimal number needs 0x in front; expected one such as 0x0150, or a decimal one such as 336",
+            b"a hexadecimal count needs 0x in front; expected one such as 0x150, or a decimal one such as 336",
         ),
         Fault::NoDigitAfterPrefix => said(
-            b"no digit follows the 0x; expected a hexadecimal number such as 0x0150",
+            b"no digit follows the mark in front; expected an address such as 0x150",
+        ),
+        Fault::NotFourDigits => said(
+            b"it is not clear which address this is; write four hexadecimal digits, as 0150, or 0x150; a decimal number ends in a dot, as 336.",
         ),
         Fault::TooLarge => said(b"this number is too large; expected at most 4294967295"),
     }
@@ -153,19 +279,21 @@ fn fault_of(fault: Fault) {
 fn expected(mistake: Mistake) {
     match mistake {
         Mistake::NoCommand => said(
-            b"no command was given; expected screen, run, step, version or help",
+            b"no command was given; expected screen, run, step, show, demo, version or help",
         ),
         Mistake::UnknownCommand(_) => said(
-            b"is no command; expected screen, run, step, version or help",
+            b"is no command; expected screen, run, step, show, demo, version or help",
         ),
         Mistake::UnknownOption(_) => said(
-            b"is no option; phk screen --help, phk run --help and phk step --help list them",
+            b"is no option; phk help COMMAND lists those of a command",
         ),
         Mistake::NotHere(_) => said(
             b"is no option of this command; --help after the command lists those that it has",
         ),
         Mistake::Twice(_) => said(b"was given twice; give it once"),
-        Mistake::NoValue(_) => said(b"its value is missing; expected one more word"),
+        Mistake::NoValue(_) => said(
+            b"its value is missing; expected one more word, which begins with no dash (a file so named is ./-name)",
+        ),
         Mistake::TooMany(_) => said(
             b"is one word too many; --help after the command shows which it takes",
         ),
@@ -177,9 +305,8 @@ fn expected(mistake: Mistake) {
             b"the window is the wrong way round (refusal 4); expected FIRST not above LAST",
         ),
         Mistake::BadNumber(_, _, fault) => fault_of(fault),
-        Mistake::AddressTooLarge(_, _) => said(
-            b"this address is too large; expected at most 0xFFFF, which is 65535",
-        ),
+        Mistake::AddressTooLarge(_, _) => said(b"this address is too large; expected at most FFFF"),
+        Mistake::WordTooLong(_) => said(b"it is longer than 4,095 bytes; no word of phk is"),
     }
 }
 

@@ -1,7 +1,6 @@
-// What the launcher told the program, and what the program tells it: its last word, on descriptor 3.
+// What the launcher told the program, and what the program tells it: the status, at the end.
 ghost use mathlib.Core.Path.{_≡_};
 ghost use Rattle.phk.specs.Status.{statusOf, stands, envIn};
-use crate::page::print;
 
 pub const DONE: u8 = 0;
 
@@ -9,13 +8,22 @@ pub const REFUSED: u8 = 1;
 
 pub const BAD_USAGE: u8 = 2;
 
-// The launcher's word comes first and begins with @: then c, colours on standard output, or -; p, progress on standard error, or -; s, the
-// last word is wanted on descriptor 3. `first` is the first word of the command line proper.
+// A file: the image cannot be read or does not hold what is asked for, --out cannot be written.
+pub const BAD_FILE: u8 = 4;
+
+pub const LOST_OUTPUT: u8 = 5;
+
+pub const STOPPED_BY_HAND: u8 = 130;
+
+// The launcher's word comes first and begins with @: then c, colours on standard output, or -; p, progress on standard error, or -; s,
+// there is a launcher, which hears the status and tells when to stop; w, lines may have 100 columns, or -. `first` is the first word
+// of the command line proper.
 pub struct Env {
     pub first: usize,
     pub colour: bool,
     pub progress: bool,
     pub tells: bool,
+    pub wide: bool,
 }
 
 // The status that a refusal's number stands for; 0 is none.
@@ -41,6 +49,7 @@ fn env_in(word: &[u8]) -> Env
             colour: stands(word, 1, 99),
             progress: stands(word, 2, 112),
             tells: stands(word, 3, 115),
+            wide: stands(word, 4, 119),
         };
     }
     Env {
@@ -48,6 +57,7 @@ fn env_in(word: &[u8]) -> Env
         colour: false,
         progress: false,
         tells: false,
+        wide: false,
     }
 }
 
@@ -57,8 +67,10 @@ pub fn told() -> Env {
     env_in(&word[..n])
 }
 
+// Descriptor 6 is a file that the launcher opened, whose place they share: it is moved to 1 and the status.
 pub fn last_word(env: Env, status: u8) {
     if env.tells {
-        print(3, b"%\n", &[status as u64], b"");
+        libc::lseek(6, status as i64, libc::SEEK_SET);
+        libc::lseek(6, 1, libc::SEEK_CUR);
     }
 }

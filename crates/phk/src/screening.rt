@@ -2,10 +2,12 @@
 ghost use mathlib.Core.Path.{_≡_};
 ghost use Rattle.routine.specs.Screen.{screen};
 ghost use Rattle.phk.specs.Window.{verdictOn, statusOfVerdict, isMark, behind, nextColumn};
+use crate::page::out;
 use crate::page::within;
 use crate::said::Env;
 use crate::said::status_of;
 use crate::sentences::after;
+use crate::view::Held;
 use commandline::grammar::Part;
 use commandline::line::Line;
 use map::kinds::draw;
@@ -25,7 +27,7 @@ fn mark(marks: &[u8], i: usize) -> bool
 }
 
 // How far an address is behind another. Addresses wrap.
-fn behind(a: u16, first: u16) -> usize
+pub fn behind(a: u16, first: u16) -> usize
     ensures { λ r. ⌜ r ≡ behind a first ⌝ }
 {
     std::num::wrapping_sub_u16(a, first) as usize
@@ -47,9 +49,9 @@ fn print_starts(mem: &[u8], marks: &[u8], first: u16, length: usize) {
     }
 }
 
-fn row_end(more: bool) {
+pub fn row_end(more: bool) {
     if more {
-        io::write_all(1, b"\n");
+        out(b"\n");
     }
 }
 
@@ -84,10 +86,12 @@ fn print_drawn(mem: &[u8], first: u16, verdict: Verdict, kinds: &mut [u8], colou
     crate::sentences::legend();
 }
 
-fn print_map(mem: &[u8], first: u16, length: usize, verdict: Verdict, colour: bool) {
+fn print_map(mem: &[u8], first: u16, length: usize, verdict: Verdict, env: Env) {
     let mut kinds = io::large_buffer();
     let n = within(&kinds, length);
-    print_drawn(mem, first, verdict, &mut kinds[..n], colour);
+    print_drawn(mem, first, verdict, &mut kinds[..n], env.colour);
+    crate::arrows::arrows(mem, first, length, env.wide);
+    crate::arrows::legend();
 }
 
 fn print_passes(line: Line, mem: &[u8], marks: &[u8], first: u16, last: u16, length: usize) {
@@ -105,7 +109,8 @@ fn print_verdict(
     first: u16,
     last: u16,
     verdict: Verdict,
-    colour: bool,
+    held: Held,
+    env: Env,
 ) {
     let length = behind(last, first) + 1;
     let map = line.has(Part::Map);
@@ -114,34 +119,59 @@ fn print_verdict(
         Verdict::Passes => {
             print_passes(line, mem, marks, first, last, length);
             if map {
-                print_map(mem, first, length, verdict, colour);
+                print_map(mem, first, length, verdict, env);
             }
         }
         Verdict::Refused(_) => crate::sentences::refused(number),
         Verdict::RefusedAt(_, at) => {
             crate::sentences::refused_at(mem, number, at.0);
+            crate::hints::hint(mem, number, first, last, at.0, held);
             if map {
-                print_map(mem, first, length, verdict, colour);
+                print_map(mem, first, length, verdict, env);
             }
         }
     }
 }
 
-fn judged(line: Line, mem: &[u8], marks: &mut [u8], first: u16, last: u16, colour: bool) -> u8
-    ensures { λ r. ⌜ r ≡ statusOfVerdict (screen (now (mem .entry)) first last (now (marks .entry)) .verdict) ⌝ }
+// The verdict of a window, told.
+pub fn verdict_told(
+    line: Line,
+    mem: &[u8],
+    marks: &mut [u8],
+    first: u16,
+    last: u16,
+    held: Held,
+    env: Env,
+) -> Verdict
+    ensures { λ r. ⌜ r ≡ screen (now (mem .entry)) first last (now (marks .entry)) .verdict ⌝ }
 {
     let verdict = screen(mem, Addr(first), Addr(last), marks);
-    print_verdict(line, mem, marks, first, last, verdict, colour);
+    print_verdict(line, mem, marks, first, last, verdict, held, env);
+    verdict
+}
+
+fn judged(
+    line: Line,
+    mem: &[u8],
+    marks: &mut [u8],
+    first: u16,
+    last: u16,
+    held: Held,
+    env: Env,
+) -> u8
+    ensures { λ r. ⌜ r ≡ statusOfVerdict (screen (now (mem .entry)) first last (now (marks .entry)) .verdict) ⌝ }
+{
+    let verdict = verdict_told(line, mem, marks, first, last, held, env);
     status_of(verdict.number())
 }
 
 // The screen decides which windows it takes: it is lent a mark for each byte of any window.
-pub fn screening(line: Line, mem: &[u8], env: Env) -> u8
+pub fn screening(line: Line, mem: &[u8], held: Held, env: Env) -> u8
     ensures { λ r. ⌜ r ≡ statusOfVerdict (verdictOn line (now (mem .entry))) ⌝ }
 {
     let first = line.address(Part::First, 0);
     let last = line.address(Part::Last, 0);
     let mut marks = io::large_buffer();
     let n = within(&marks, behind(last, first) + 1);
-    judged(line, mem, &mut marks[..n], first, last, env.colour)
+    judged(line, mem, &mut marks[..n], first, last, held, env)
 }

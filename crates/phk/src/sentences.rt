@@ -4,6 +4,7 @@ ghost use mathlib.Core.Path.{_≡_};
 ghost use Prim.Native.Nat.{_+_, _%_};
 ghost use Rattle.definition.specs.Bus.{byteAt};
 ghost use Rattle.phk.specs.Values.{valuesOf};
+use crate::page::out;
 use crate::page::print;
 use crate::page::print_short;
 use map::opcode::length_of;
@@ -26,7 +27,7 @@ pub fn after(a: u16, by: u16) -> u16
 }
 
 fn end_line() {
-    io::write_all(1, b"\n");
+    out(b"\n");
 }
 
 // The registers as values: AF, BC, DE, HL, SP, PC, and F for the flags.
@@ -47,7 +48,7 @@ fn values_of(r: CpuRegisters) -> [u64; 7]
 }
 
 // An instruction start and its bytes, by a form for each length.
-fn print_start(forms: &[u8], mem: &[u8], a: u16) {
+fn print_start(forms: &[u8], mem: &[u8], a: u16) -> bool {
     let b = byte(mem, a);
     let values = [
         a as u64,
@@ -55,7 +56,7 @@ fn print_start(forms: &[u8], mem: &[u8], a: u16) {
         byte(mem, after(a, 1)) as u64,
         byte(mem, after(a, 2)) as u64,
     ];
-    print_short(1, line_of(forms, length_of(b) as usize), &values, b"");
+    print_short(1, line_of(forms, length_of(b) as usize), &values, b"")
 }
 
 pub fn start(mem: &[u8], a: u16) {
@@ -78,7 +79,7 @@ fn rule(number: u8) {
     let text = line_of(
         b"
 the memory is not 65,536 bytes long; give a whole image, or say with --at where a part of one lies
-the low four bits of F are not 0; start from a power-on state
+the low four bits of F are not 0; give --af a value whose last digit is 0
 the byte at PC is no instruction of this processor; find out how PC came here, with --trace or from the return addresses at SP
 the first address of the window is above its last; give the lower one first
 the window is longer than 4,096 bytes; screen one routine at a time
@@ -89,13 +90,97 @@ the last instruction may run on past LAST; let the routine end with a JP, JR or 
 this jump goes where no instruction of the window starts; aim it at a start inside the window, or widen the window",
         number as usize,
     );
-    io::write_all(1, text);
+    out(text);
     end_line();
 }
 
 pub fn refused(number: u8) {
     print(1, b"refused %\n", &[number as u64], b"");
     rule(number);
+}
+
+// What the screen says, before a run within a window.
+pub fn screened() {
+    out(b"screen: ");
+}
+
+// What demand 3 says of a routine that passes, started as it wants.
+pub fn proved() {
+    out(
+        b"proved: until it returns or writes into itself, PC stays at its instruction starts, and no step is refused, halts, stops or is interrupted
+",
+    );
+}
+
+pub fn not_proved_of_refused() {
+    out(
+        b"nothing is proved of a routine that does not pass; its instruction starts are those met from its first address on
+",
+    );
+}
+
+pub fn not_proved_of_state() {
+    out(
+        b"nothing is proved of this start: the routine passes, but interrupts are on, or about to be, or F is no F
+",
+    );
+}
+
+pub fn not_proved_of_start(a: u16) {
+    print(
+        1,
+        b"nothing is proved of this start: the routine passes, but # is no instruction start of it\n",
+        &[a as u64],
+        b"",
+    );
+}
+
+// Why the watch ended.
+
+pub fn returned(a: u16) {
+    print(1, b"it has returned, to #\n", &[a as u64], b"");
+}
+
+pub fn strayed(a: u16) {
+    print(
+        1,
+        b"it has lost its place: # is no instruction start of the routine, and no return led there\n",
+        &[a as u64],
+        b"",
+    );
+}
+
+pub fn was_refused() {
+    out(b"a step is refused\n");
+}
+
+pub fn was_stopped() {
+    out(b"a step stops the processor\n");
+}
+
+pub fn was_halted() {
+    out(b"a step halts the processor\n");
+}
+
+pub fn was_interrupted() {
+    out(b"a step takes an interrupt\n");
+}
+
+pub fn wrote_inside(a: u16) {
+    print(
+        1,
+        b"a step writes into the routine, at #; from there on it is another routine\n",
+        &[a as u64],
+        b"",
+    );
+}
+
+pub fn last_steps() {
+    out(b"that step, and up to sixteen before it:\n");
+}
+
+pub fn not_run(f: u8) -> bool {
+    print_short(1, b" &  0  not run\n", &[f as u64], b"")
 }
 
 // A refusal that names an address, and the bytes there.
@@ -123,8 +208,31 @@ it took interrupt 3, at vector 0058
 it took interrupt 4, at vector 0060",
         outcome as usize,
     );
-    io::write_all(1, text);
+    out(text);
     end_line();
+}
+
+// A run that would go on.
+pub fn limit(budget: u64) {
+    print(
+        1,
+        b"the limit of % steps was reached, and the processor goes on; --steps N sets another limit\n",
+        &[budget],
+        b"",
+    );
+}
+
+pub fn stopped_by_hand() {
+    out(b"it was stopped from the keyboard, and would go on; no file was written\n");
+}
+
+pub fn left_the_image(a: u16) {
+    print(
+        1,
+        b"it has left the image: the instruction at # is not all in it\n",
+        &[a as u64],
+        b"",
+    );
 }
 
 // What a run came to.
@@ -141,12 +249,12 @@ pub fn report(steps: u64, cycles: u64, registers: CpuRegisters) {
 
 pub fn interrupts(on: bool, soon: bool) {
     if on {
-        io::write_all(1, b"interrupts on\n");
+        out(b"interrupts on\n");
         return;
     }
-    io::write_all(1, b"interrupts off");
+    out(b"interrupts off");
     if soon {
-        io::write_all(1, b", on after the next instruction");
+        out(b", on after the next instruction");
     }
     end_line();
 }
@@ -161,24 +269,22 @@ pub fn change(a: u16, before: u8, now: u8) {
 }
 
 pub fn no_change() {
-    io::write_all(1, b"no byte of memory changed\n");
+    out(b"no byte of memory changed\n");
 }
 
 pub fn trace_head() {
-    io::write_all(
-        1,
-        b"PC    bytes     AF   BC   DE   HL   SP   ZNHC  M-cycles, outcome\n",
-    );
+    out(b"PC    bytes     AF   BC   DE   HL   SP   ZNHC  M-cycles, outcome, writes\n");
 }
 
 // Where a traced step begins: PC, the bytes there and the registers.
-pub fn tracing(mem: &[u8], a: u16, before: CpuRegisters) {
-    print_start(b"\n#  $       \n#  $ $    \n#  $ $ $ ", mem, a);
-    print_short(1, b" # # # # #", &values_of(before), b"");
+pub fn tracing(mem: &[u8], a: u16, before: CpuRegisters) -> bool {
+    let begun = print_start(b"\n#  $       \n#  $ $    \n#  $ $ $ ", mem, a);
+    let ended = print_short(1, b" # # # # #", &values_of(before), b"");
+    begun & ended
 }
 
 // What it did: the flags before it, its M-cycles and how it ended.
-pub fn traced(f: u8, cycles: u64, outcome: u16) {
+pub fn traced(f: u8, cycles: u64, outcome: u16) -> bool {
     let brief = line_of(
         b"ran
 loops for ever
@@ -202,7 +308,21 @@ refused 2
 refused 3",
         outcome as usize,
     );
-    print_short(1, b" &  %  @\n", &[f as u64, cycles], brief);
+    print_short(1, b" &  %  @", &[f as u64, cycles], brief)
+}
+
+pub fn wrote_nothing() -> bool {
+    print_short(1, b"\n", &[], b"")
+}
+
+pub fn wrote_one(mem: &[u8], a: u16) -> bool {
+    let values = [a as u64, byte(mem, a) as u64];
+    print_short(1, b"  #=$\n", &values, b"")
+}
+
+pub fn wrote_two(mem: &[u8], a: u16, b: u16) -> bool {
+    let values = [a as u64, byte(mem, a) as u64, b as u64, byte(mem, b) as u64];
+    print_short(1, b"  #=$ #=$\n", &values, b"")
 }
 
 // How far a long run has come, on one line that is written over.
@@ -222,21 +342,15 @@ pub fn row(a: u16) {
 // byte), in its kind's colour if colours are wanted.
 pub fn cell(kind: u8, colour: bool) {
     if colour {
-        io::write_all(
-            1,
-            line_of(
-                b"-\x1b[0m\n\x1b[32mI\x1b[0m\n\x1b[2m.\x1b[0m\n\x1b[36mJ\x1b[0m\n\x1b[31;7mX\x1b[0m",
-                kind as usize,
-            ),
-        );
+        out(line_of(
+            b"-\x1b[0m\n\x1b[32mI\x1b[0m\n\x1b[2m.\x1b[0m\n\x1b[36mJ\x1b[0m\n\x1b[31;7mX\x1b[0m",
+            kind as usize,
+        ));
     } else {
-        io::write_all(1, line_of(b"-\nI\n.\nJ\nX", kind as usize));
+        out(line_of(b"-\nI\n.\nJ\nX", kind as usize));
     }
 }
 
 pub fn legend() {
-    io::write_all(
-        1,
-        b"I instruction start   . operand byte   J jump   X refused here   - not reached\n",
-    );
+    out(b"I instruction start   . operand byte   J jump   X refused here   - not reached\n");
 }

@@ -7,9 +7,7 @@ use Rattle.phk.proofs.screening.judged.Statement.{statement}
 use Rattle.phk.proofs.screening.judged.Tie as tie
 
 returns : tie.Need-returns
-returns c =
-    let verdict = c .before .before .before .before .before .before .screen .ensures .verdict in
-    c .status-of .ensures ∙ ap statusOf (c .before .number .ensures) ∙ ap statusOfVerdict verdict
+returns c = c .status-of .ensures ∙ ap statusOf (c .before .number .ensures) ∙ ap statusOfVerdict (c .before .before .before .before .verdict-told .ensures)
 
 pub judged-spec : {M : Type 1} → statement M
-judged-spec = tie.close (tie.spec (λ c κs. search needs) (λ c κs. search needs) (λ c κs. search needs) (λ c κs. search needs) (λ c. search needs) returns)
+judged-spec = tie.close (tie.spec (λ c κs. search needs) (λ c κs. search needs) (λ c κs. search needs) (λ c. search needs) returns)

@@ -1,8 +1,8 @@
 -- Each state, by its constructor.
 use Rattle.phk.specs.Start.{atPowerOn}
 use borrow.Author.Needs.{needs}
-use Rattle.phk.proofs.far.at_power_on.Statement.{statement}
-use Rattle.phk.proofs.far.at_power_on.Tie as tie
+use Rattle.phk.proofs.start.at_power_on.Statement.{statement}
+use Rattle.phk.proofs.start.at_power_on.Tie as tie
 
 returns : tie.Need-returns
 unfolding atPowerOn

@@ -1,0 +1,2 @@
+-- What the proofs of the functions that look at a file share.
+mod Asking
