@@ -95,7 +95,7 @@ Runs one instruction, and prints what phk run prints, the number of accesses to 
 fn showing() {
     out(
         b"phk show IMAGE ADDRESS [COUNT] [--stack] [--at A]
-Shows COUNT bytes (128 if left out) from ADDRESS on, 16 a row; a byte that is not in IMAGE as --.
+Shows COUNT bytes (128 if left out, at most 65,536) from ADDRESS on, 16 a row; a byte that is not in IMAGE as --.
   --stack   ADDRESS is SP: COUNT words (8 if left out) from there on, low byte first, and the call that each may return to
   --at A    IMAGE is a part of memory that begins at address A
 ",

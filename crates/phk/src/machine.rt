@@ -74,7 +74,7 @@ pub fn looked(far: Far, mem: &[u8], view: View) -> Far
 }
 
 // Where a step was, by how many steps may follow it, if these are few.
-fn note(far: Far, left: u64, pcs: &mut [u64])
+pub fn note(far: Far, left: u64, pcs: &mut [u64])
     requires { ⌜ 0 < left ⌝ }
     ensures { λ _. ⌜ now (pcs .exit) ≡ noted far (left - 1) (now (pcs .entry)) ⌝ }
 {

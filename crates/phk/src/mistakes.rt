@@ -66,6 +66,13 @@ pub fn out_not_yours(path: &[u8]) {
     );
 }
 
+pub fn out_unnamed() {
+    io::write_all(
+        2,
+        b"phk: --out: an empty word names no file; give the name of a new one\n",
+    );
+}
+
 pub fn out_not_made(path: &[u8]) {
     fail(b"phk: --out '@': no file can be made there", path);
 }

@@ -98,7 +98,13 @@ fn may_save_as(path: &[u8], image: &[u8]) -> bool {
     let may = may_write(path) & ((user == 0) | (user == there.uid));
     let target = target_of(there, look(image, true), may);
     tell_target(target, path);
-    is_free(target) & !is_output(there, path)
+    if !is_free(target) {
+        return false;
+    }
+    if is_output(there, path) {
+        return false;
+    }
+    may_make(path)
 }
 
 // A file that standard output goes to would take what is said with it when it is replaced.
@@ -110,16 +116,46 @@ fn is_output(there: Looked, path: &[u8]) -> bool {
     same
 }
 
+// The new file's name is the file's with .new- and the program's first word, in which the launcher puts its process's number: if the
+// program is ended in between, the launcher removes it by that name.
+fn name_beside(new: &mut [u8], path: &[u8]) -> usize {
+    let mut word = io::buffer();
+    let k = os::arg(1, &mut word);
+    let at = put(new, 0, path);
+    let at = put(new, at, b".new-");
+    put(new, at, &word[..k])
+}
+
+// Whether its folder takes a new file: tried with an empty one, which is removed at once.
+fn may_make(path: &[u8]) -> bool {
+    let mut new = io::large_buffer();
+    let n = name_beside(&mut new, path);
+    let n = within(&new, n);
+    let fd = os::create(&new[..n]);
+    if fd < 0 {
+        mistakes::out_not_made(path);
+        return false;
+    }
+    libc::close(fd);
+    os::unlink(&new[..n]);
+    true
+}
+
 // Only a new name or a file that the caller may write is written to, and never the image: asked before anything is run.
 pub fn may_save(line: Line) -> bool {
     let mut path = io::buffer();
     let mut image = io::buffer();
     let n = os::arg(line.word(Part::Out, 0), &mut path);
     let k = os::arg(line.word(Part::Image, 0), &mut image);
-    if line.has(Part::Out) {
-        return may_save_as(&path[..n], &image[..k]);
+    let absent = !line.has(Part::Out);
+    if absent {
+        return true;
     }
-    true
+    if n == 0 {
+        mistakes::out_unnamed();
+        return false;
+    }
+    may_save_as(&path[..n], &image[..k])
 }
 
 // All bytes, to the disk.
@@ -166,16 +202,10 @@ fn save_as(new: &[u8], path: &[u8], mem: &[u8]) -> bool {
     true
 }
 
-// The new file's name is the file's with .new- and the program's first word, in which the launcher puts its process's number: if the
-// program is ended in between, the launcher removes it by that name.
 fn save_named(path: &[u8], mem: &[u8]) -> bool {
-    let mut word = io::buffer();
-    let k = os::arg(1, &mut word);
     let mut new = io::large_buffer();
-    let at = put(&mut new, 0, path);
-    let at = put(&mut new, at, b".new-");
-    let at = put(&mut new, at, &word[..k]);
-    let n = within(&new, at);
+    let n = name_beside(&mut new, path);
+    let n = within(&new, n);
     save_as(&new[..n], path, mem)
 }
 

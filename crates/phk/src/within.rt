@@ -23,6 +23,7 @@ use crate::far::begun;
 use crate::far::farther;
 use crate::far::over;
 use crate::machine::looked;
+use crate::machine::note;
 use crate::machine::piece;
 use crate::machine::pieces;
 use crate::page::within;
@@ -119,7 +120,15 @@ fn seen_at(far: Far, why: Why, home: bool, first: Addr, marks: &[u8]) -> Seen
 }
 
 // So many steps, or until the watch ends, or the run does.
-fn watched(cpu: Cpu, mem: &mut [u8], steps: u64, first: Addr, marks: &[u8], view: View) -> Seen
+fn watched(
+    cpu: Cpu,
+    mem: &mut [u8],
+    steps: u64,
+    first: Addr,
+    marks: &[u8],
+    view: View,
+    pcs: &mut [u64],
+) -> Seen
     ensures { λ r. ⌜ Went steps cpu (now (mem .entry)) (r .far) (now (mem .exit)) ⌝ }
 {
     let mut f = piece(begun(cpu), mem, 0, false);
@@ -136,6 +145,7 @@ fn watched(cpu: Cpu, mem: &mut [u8], steps: u64, first: Addr, marks: &[u8], view
         if over(f) {
             return seen_at(f, why, home, first, marks);
         }
+        note(f, left, pcs);
         let s = watched_step(f, mem, first, marks, view.trace);
         f = s.far;
         why = s.why;
@@ -253,14 +263,22 @@ fn print_rest(traced: bool, mem: &[u8], cpu: Cpu) {
 }
 
 // How the watch ended, or else the run.
-fn print_seen(seen: Seen, cpu: Cpu, mem: &[u8], old: &mut [u8], steps: u64, trace: bool) {
+fn print_seen(
+    seen: Seen,
+    cpu: Cpu,
+    mem: &[u8],
+    old: &mut [u8],
+    steps: u64,
+    trace: bool,
+    pcs: &[u64],
+) {
     let far = seen.far;
     let why = seen.why;
     let end = far.cpu;
     let registers = end.registers;
     let pc = registers.pc;
     if !ends_watch(why) {
-        print_end(far, mem, steps, &[]);
+        print_end(far, mem, steps, pcs);
         return;
     }
     print_why(why, seen.home, pc.0);
@@ -316,8 +334,9 @@ fn watching_in(
     let passes = verdict.number() == 0;
     print_proved(passes, cpu, first, marks);
     show_head(view.trace);
-    let seen = watched(cpu, mem, budget(line), first, marks, view);
-    print_seen(seen, cpu, mem, old, budget(line), view.trace);
+    let mut pcs = [0u64; NOTED];
+    let seen = watched(cpu, mem, budget(line), first, marks, view, &mut pcs);
+    print_seen(seen, cpu, mem, old, budget(line), view.trace, &pcs);
     let far = seen.far;
     let why = seen.why;
     let cut = far.cut;
