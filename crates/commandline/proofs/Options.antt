@@ -1,4 +1,4 @@
--- An arm of the match on a command's options is right: one computed test over the numbers of the arm.
+-- An arm of a match on a part that asks whether a list has it is right: one computed test over the numbers of the arm.
 use mathlib.Core.Path.{_≡_, refl, sym, ap, subst, _∙_}
 use mathlib.Core.Bool.{Bool, true, false}
 use mathlib.Core.List.{List, [], _∷_, _++_, map}
@@ -48,25 +48,33 @@ each : (f : ℕ → Bool) (b : Bool) (ks : List ℕ) → map f ks ≡ map (λ (n
 each f b [] e x one = absurd one
 each f b (k ∷ ks) e x one = later f b k ks e x one
 
--- what an arm answers for the parts with these numbers is what the list of the command's options says of each
-answers : (c : Command) (b : Bool) (ks : List ℕ) → map (λ (n : ℕ). isIn n (optionsOf c)) ks ≡ map (λ (n : ℕ). b) ks → (d : Command) → d ≡ c → (p : Part) → OneOf ks (tagOf the-type p) → b ≡ allows d p
-answers c b ks right d told p one =
-    each (λ (n : ℕ). isIn n (optionsOf c)) b ks right (place p) (subst (OneOf ks) (placed p) one) ∙ ap (λ (e : Command). allows e p) (sym told)
+-- what an arm answers for the parts with these numbers is whether a list has each
+answers : (l : List Part) (b : Bool) (ks : List ℕ) → map (λ (n : ℕ). isIn n l) ks ≡ map (λ (n : ℕ). b) ks → (p : Part) → OneOf ks (tagOf the-type p) → b ≡ isIn (place p) l
+answers l b ks right p one = each (λ (n : ℕ). isIn n l) b ks right (place p) (subst (OneOf ks) (placed p) one)
 
--- the arm that names a command's options
-abbrev pub named : Command → List ℕ
-named c = map place (optionsOf c)
+-- the arm that names the parts of a list
+abbrev pub named : List Part → List ℕ
+named l = map place l
 
-pub taken : (c : Command) → map (λ (n : ℕ). isIn n (optionsOf c)) (named c) ≡ map (λ (n : ℕ). true) (named c) → (d : Command) → d ≡ c → (p : Part) → OneOf (named c) (tagOf the-type p) → true ≡ allows d p
-taken c = answers c true (named c)
+pub listed : (l : List Part) → map (λ (n : ℕ). isIn n l) (named l) ≡ map (λ (n : ℕ). true) (named l) → (p : Part) → OneOf (named l) (tagOf the-type p) → true ≡ isIn (place p) l
+listed l = answers l true (named l)
 
 -- the arm for all other parts
 abbrev without : List Part → ℕ → ℕ → List ℕ
 without l n zero = []
 without l n (suc count) = choose (isIn n l) [] (n ∷ []) ++ without l (n + 1) count
 
-unfoldable pub others : Command → List ℕ
-others c = without (optionsOf c) 0 parts
+unfoldable pub others : List Part → List ℕ
+others l = without l 0 parts
 
-pub refused : (c : Command) → map (λ (n : ℕ). isIn n (optionsOf c)) (others c) ≡ map (λ (n : ℕ). false) (others c) → (d : Command) → d ≡ c → (p : Part) → OneOf (others c) (tagOf the-type p) → false ≡ allows d p
-refused c = answers c false (others c)
+pub unlisted : (l : List Part) → map (λ (n : ℕ). isIn n l) (others l) ≡ map (λ (n : ℕ). false) (others l) → (p : Part) → OneOf (others l) (tagOf the-type p) → false ≡ isIn (place p) l
+unlisted l = answers l false (others l)
+
+-- both of the options of a command
+pub taken :
+    (c : Command) → map (λ (n : ℕ). isIn n (optionsOf c)) (named (optionsOf c)) ≡ map (λ (n : ℕ). true) (named (optionsOf c)) → (d : Command) → d ≡ c → (p : Part) → OneOf (named (optionsOf c)) (tagOf the-type p) → true ≡ allows d p
+taken c right d told p one = listed (optionsOf c) right p one ∙ ap (λ (e : Command). allows e p) (sym told)
+
+pub refused :
+    (c : Command) → map (λ (n : ℕ). isIn n (optionsOf c)) (others (optionsOf c)) ≡ map (λ (n : ℕ). false) (others (optionsOf c)) → (d : Command) → d ≡ c → (p : Part) → OneOf (others (optionsOf c)) (tagOf the-type p) → false ≡ allows d p
+refused c right d told p one = unlisted (optionsOf c) right p one ∙ ap (λ (e : Command). allows e p) (sym told)

@@ -5,7 +5,7 @@ use mathlib.Core.List.{List, [], _∷_}
 use Prim.Native.Nat.{ℕ, _<_}
 use lib.Dec.{eqb}
 use lib.ListN.{getD}
-use Rattle.text.specs.Page.{ascii}
+use Rattle.text.specs.Page.{ascii, choose}
 use Rattle.text.specs.Lines.{numberOf}
 use Rattle.commandline.specs.declared.grammar.Command.{Command}
 use Rattle.commandline.specs.declared.grammar.Command.the-variants.{Screen, Run, Step, Show, Demo, Version, Help}
@@ -114,31 +114,18 @@ kindOf part.Trace = Alone
 kindOf part.Stack = Alone
 kindOf part.Help = Alone
 
--- the values that come after an option: none if it stands alone, its own, or the two addresses of --within
+-- its own value comes after an option, unless it stands alone
+abbrev pub ownValue : Kind → Part → Turn
+ownValue Alone p = Nothing
+ownValue Path p = One p
+ownValue Address p = One p
+ownValue Number p = One p
+ownValue Power p = One p
+ownValue kind.Command p = One p
+
+-- the values that come after an option: after --within, which is FIRST, a second one
 abbrev pub valuesOf : Part → Turn
-valuesOf part.Image = One part.Image
-valuesOf part.First = Two part.First part.Last
-valuesOf part.Last = One part.Last
-valuesOf part.Address = One part.Address
-valuesOf part.Count = One part.Count
-valuesOf part.Topic = One part.Topic
-valuesOf part.At = One part.At
-valuesOf part.State = One part.State
-valuesOf part.Pc = One part.Pc
-valuesOf part.Sp = One part.Sp
-valuesOf part.Af = One part.Af
-valuesOf part.Bc = One part.Bc
-valuesOf part.De = One part.De
-valuesOf part.Hl = One part.Hl
-valuesOf part.Ime = Nothing
-valuesOf part.Ei = Nothing
-valuesOf part.Steps = One part.Steps
-valuesOf part.Out = One part.Out
-valuesOf part.Marks = Nothing
-valuesOf part.Map = Nothing
-valuesOf part.Trace = Nothing
-valuesOf part.Stack = Nothing
-valuesOf part.Help = Nothing
+valuesOf p = choose (isIn (place p) (part.First ∷ [])) (Two part.First part.Last) (ownValue (kindOf p) p)
 
 -- no value comes after the option
 abbrev pub isAlone : Turn → Bool

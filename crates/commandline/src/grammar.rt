@@ -2,7 +2,7 @@
 // is one case in each of these, and a sentence in the program.
 ghost use mathlib.Core.Path.{_≡_};
 ghost use Rattle.commandline.specs.declared.grammar.Command.the-variants.{Run, Step};
-ghost use Rattle.commandline.specs.Grammar.{PlaceOf, turnOf, mayLack, allows, kindOf, valuesOf, isAlone, commandNamed, optionNamed, powerNamed};
+ghost use Rattle.commandline.specs.Grammar.{PlaceOf, turnOf, mayLack, allows, kindOf, ownValue, valuesOf, isAlone, commandNamed, optionNamed, powerNamed};
 use text::lines::number_of;
 
 pub enum Command {
@@ -111,29 +111,8 @@ pub(crate) fn may_lack(part: Part) -> bool
     ensures { λ r. ⌜ r ≡ mayLack part ⌝ }
 {
     match part {
-        Part::Image => false,
-        Part::First => false,
-        Part::Last => false,
-        Part::Address => false,
-        Part::Count => true,
-        Part::Topic => true,
-        Part::At => false,
-        Part::State => false,
-        Part::Pc => false,
-        Part::Sp => false,
-        Part::Af => false,
-        Part::Bc => false,
-        Part::De => false,
-        Part::Hl => false,
-        Part::Ime => false,
-        Part::Ei => false,
-        Part::Steps => false,
-        Part::Out => false,
-        Part::Marks => false,
-        Part::Map => false,
-        Part::Trace => false,
-        Part::Stack => false,
-        Part::Help => false,
+        Part::Count | Part::Topic => true,
+        _ => false,
     }
 }
 
@@ -252,34 +231,27 @@ pub(crate) fn kind_of(part: Part) -> Kind
     }
 }
 
-// The values that come after an option: none if it stands alone, its own, or the two addresses of --within.
+// Its own value comes after an option, unless it stands alone.
+fn own_value(kind: Kind, part: Part) -> Turn
+    ensures { λ r. ⌜ r ≡ ownValue kind part ⌝ }
+{
+    match kind {
+        Kind::Alone => Turn::Nothing,
+        Kind::Path => Turn::One(part),
+        Kind::Address => Turn::One(part),
+        Kind::Number => Turn::One(part),
+        Kind::Power => Turn::One(part),
+        Kind::Command => Turn::One(part),
+    }
+}
+
+// The values that come after an option: after --within, which is FIRST, a second one.
 pub(crate) fn values_of(part: Part) -> Turn
     ensures { λ r. ⌜ r ≡ valuesOf part ⌝ }
 {
     match part {
-        Part::Image => Turn::One(Part::Image),
         Part::First => Turn::Two(Part::First, Part::Last),
-        Part::Last => Turn::One(Part::Last),
-        Part::Address => Turn::One(Part::Address),
-        Part::Count => Turn::One(Part::Count),
-        Part::Topic => Turn::One(Part::Topic),
-        Part::At => Turn::One(Part::At),
-        Part::State => Turn::One(Part::State),
-        Part::Pc => Turn::One(Part::Pc),
-        Part::Sp => Turn::One(Part::Sp),
-        Part::Af => Turn::One(Part::Af),
-        Part::Bc => Turn::One(Part::Bc),
-        Part::De => Turn::One(Part::De),
-        Part::Hl => Turn::One(Part::Hl),
-        Part::Ime => Turn::Nothing,
-        Part::Ei => Turn::Nothing,
-        Part::Steps => Turn::One(Part::Steps),
-        Part::Out => Turn::One(Part::Out),
-        Part::Marks => Turn::Nothing,
-        Part::Map => Turn::Nothing,
-        Part::Trace => Turn::Nothing,
-        Part::Stack => Turn::Nothing,
-        Part::Help => Turn::Nothing,
+        _ => own_value(kind_of(part), part),
     }
 }
 

@@ -1,55 +1,15 @@
--- Each part, by its constructor.
-use borrow.Author.Needs.{needs}
+-- The two arms, by the list of the words that may be left out.
+use mathlib.Core.Path.{refl}
+use mathlib.Core.List.{[], _∷_}
+use Rattle.commandline.specs.declared.grammar.Part.the-variants.{Count, Topic}
+use Rattle.commandline.proofs.Options.{listed, others, unlisted}
 use Rattle.commandline.proofs.grammar.may_lack.Statement.{statement}
 use Rattle.commandline.proofs.grammar.may_lack.Tie as tie
 
 pub may-lack-spec : {M : Type 1} → statement M
+unfolding others
 may-lack-spec =
     tie.close
     (tie.spec
-    (λ c. search needs)
-    (λ c. search needs)
-    (λ c. search needs)
-    (λ c. search needs)
-    (λ c. search needs)
-    (λ c. search needs)
-    (λ c. search needs)
-    (λ c. search needs)
-    (λ c. search needs)
-    (λ c. search needs)
-    (λ c. search needs)
-    (λ c. search needs)
-    (λ c. search needs)
-    (λ c. search needs)
-    (λ c. search needs)
-    (λ c. search needs)
-    (λ c. search needs)
-    (λ c. search needs)
-    (λ c. search needs)
-    (λ c. search needs)
-    (λ c. search needs)
-    (λ c. search needs)
-    (λ c. search needs)
-    (λ c. simp (c .enum-told .given .1))
-    (λ c. simp (c .enum-told2 .given .1))
-    (λ c. simp (c .enum-told3 .given .1))
-    (λ c. simp (c .enum-told4 .given .1))
-    (λ c. simp (c .enum-told5 .given .1))
-    (λ c. simp (c .enum-told6 .given .1))
-    (λ c. simp (c .enum-told7 .given .1))
-    (λ c. simp (c .enum-told8 .given .1))
-    (λ c. simp (c .enum-told9 .given .1))
-    (λ c. simp (c .enum-told10 .given .1))
-    (λ c. simp (c .enum-told11 .given .1))
-    (λ c. simp (c .enum-told12 .given .1))
-    (λ c. simp (c .enum-told13 .given .1))
-    (λ c. simp (c .enum-told14 .given .1))
-    (λ c. simp (c .enum-told15 .given .1))
-    (λ c. simp (c .enum-told16 .given .1))
-    (λ c. simp (c .enum-told17 .given .1))
-    (λ c. simp (c .enum-told18 .given .1))
-    (λ c. simp (c .enum-told19 .given .1))
-    (λ c. simp (c .enum-told20 .given .1))
-    (λ c. simp (c .enum-told21 .given .1))
-    (λ c. simp (c .enum-told22 .given .1))
-    (λ c. simp (c .enum-told23 .given .1)))
+    (λ c. listed (Count ∷ Topic ∷ []) refl (c .before .args .part) (c .match .keys1))
+    (λ c. unlisted (Count ∷ Topic ∷ []) refl (c .before .args .part) (c .match .keys2)))
