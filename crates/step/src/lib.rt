@@ -18,7 +18,7 @@ use sm83::Cpu;
 
 mod dispatch;
 mod fetch;
-mod waking;
+pub mod waking;
 
 // What comes of a halt: whether it goes on.
 pub struct Woken {

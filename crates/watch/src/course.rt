@@ -2,40 +2,19 @@
 ghost use mathlib.Core.Path.{_≡_};
 ghost use Rattle.outcome.specs.Interrupts.{isPending};
 ghost use Rattle.definition.specs.Bus.{pending};
-ghost use Rattle.definition.specs.Step.{isAsleep, isBug, fetched};
+ghost use Rattle.definition.specs.Step.{fetched};
 ghost use Rattle.watch.specs.Written.{courseOf};
 use map::byte::byte;
 use sm83::Addr;
 use sm83::Cpu;
 use sm83::CpuRegisters;
-use sm83::HaltMode;
+use step::waking::is_asleep;
+use step::waking::is_bug;
 
 pub enum Course {
     Rests,
     Dispatches,
     Executes,
-}
-
-fn is_asleep(halt: HaltMode) -> bool
-    ensures { λ r. ⌜ r ≡ isAsleep halt ⌝ }
-{
-    match halt {
-        HaltMode::NotHalting => false,
-        HaltMode::HaltRunInterrupt => true,
-        HaltMode::HaltNoRunInterrupt => true,
-        HaltMode::HaltBug => false,
-    }
-}
-
-fn is_bug(halt: HaltMode) -> bool
-    ensures { λ r. ⌜ r ≡ isBug halt ⌝ }
-{
-    match halt {
-        HaltMode::NotHalting => false,
-        HaltMode::HaltRunInterrupt => false,
-        HaltMode::HaltNoRunInterrupt => false,
-        HaltMode::HaltBug => true,
-    }
 }
 
 // "Peeking sees byte 0xFF0F AND byte 0xFFFF AND 0x1F"
