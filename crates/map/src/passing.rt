@@ -5,6 +5,7 @@ ghost use lib.ListN.{length};
 ghost use Rattle.routine.specs.Screen.{longestWindow};
 ghost use Rattle.map.specs.Passing.{isPass, wouldPass, lowest, highest, passingAbove, passingBelow};
 use routine::Verdict;
+use screen::LONGEST_WINDOW;
 use screen::screen;
 use sm83::Addr;
 
@@ -12,8 +13,6 @@ pub enum Passing {
     Never,
     UpTo(Addr),
 }
-
-const LONGEST_WINDOW: usize = 4096;
 
 fn passes(verdict: Verdict) -> bool
     ensures { λ r. ⌜ r ≡ isPass verdict ⌝ }

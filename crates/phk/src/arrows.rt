@@ -27,6 +27,7 @@ use map::target::Target;
 use map::target::jumps_always;
 use map::target::target_at;
 use routine::Verdict;
+use screen::LONGEST_WINDOW;
 use sm83::Addr;
 
 // Where the jump at an address goes, in place of an arrow.
@@ -129,9 +130,9 @@ fn print_picture(mem: &[u8], first: u16, kinds: &mut [u8], count: u8) {
     print_rows(mem, first, kinds, &froms, &tos, &lanes, count);
 }
 
-// Of a window of at most 4,096 bytes; no line is longer than 100 columns if it may be wide, and else than 80.
+// Of a window that is not too long for the screen; no line is longer than 100 columns if it may be wide, and else than 80.
 pub fn arrows(mem: &[u8], first: u16, length: usize, wide: bool) {
-    let mut kinds = [0u8; 4096];
+    let mut kinds = [0u8; LONGEST_WINDOW];
     let n = within(&kinds, length);
     let count = if wide { 36 } else { 26 };
     print_picture(mem, first, &mut kinds[..n], count);

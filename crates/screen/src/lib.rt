@@ -17,7 +17,7 @@ mod targets;
 mod walk;
 mod window;
 
-const LONGEST_WINDOW: usize = 4096;
+pub const LONGEST_WINDOW: usize = 4096;
 
 // What was found before, or else what the next test finds.
 fn then(found: Verdict, mem: &[u8], first: Addr, marks: &[u8], test: Test) -> Verdict

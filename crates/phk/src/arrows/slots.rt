@@ -8,11 +8,12 @@ use map::place::Place;
 use map::place::place_of;
 use map::target::Target;
 use map::target::target_at;
+use screen::LONGEST_WINDOW;
 use sm83::Addr;
 
 // A row is the number of its first byte in the window. An instruction that jumps has two bytes at least, so that each has a slot of its
 // own, at half its row.
-pub const SLOTS: usize = 2048;
+pub const SLOTS: usize = LONGEST_WINDOW / 2;
 
 // In place of a lane: no jump in the slot; a jump for which none was looked for yet; a jump that is shown by its target.
 pub const NO_JUMP: u8 = 255;
