@@ -69,7 +69,7 @@ fn idle_asleep(cpu: Cpu, port: Port, mem: &mut [u8]) -> Woken
 }
 
 // 3. A halt that goes on, one that ends, or none.
-pub fn wake(cpu: Cpu, port: Port, mem: &mut [u8]) -> Woken
+pub(crate) fn wake(cpu: Cpu, port: Port, mem: &mut [u8]) -> Woken
     requires { ⌜ length (now mem) ≡ 65536 ⌝ }
     ensures { λ r. ⌜ Wakes cpu port (now (mem .entry)) (r .halting) (r .cpu) (r .port) (now (mem .exit)) ⌝ }
 {
