@@ -1,4 +1,6 @@
 // Arithmetic: no memory, no state. Each function is equal to the definition's (opcodes, specs/Arithmetic). Logic, single bits and shifts: the crate `bits`.
+#![tactic(auto)]
+
 ghost use Rattle.std.specs.Prelude.{◌≡◌};
 ghost use Rattle.arithmetic.specs.Computed.{byte_with};
 
@@ -9,7 +11,7 @@ pub mod sums;
 pub mod words;
 
 // A byte with the flags that it comes with.
-#[derive(Drop)]
+#[derive(Clone, Copy)]
 pub struct Computed {
     pub value: u8,
     pub flags: u8,

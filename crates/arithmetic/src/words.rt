@@ -6,7 +6,7 @@ ghost use Rattle.arithmetic.specs.Words.{word_with};
 
 use sm83::flags::{flag_byte, flag_z};
 
-#[derive(Drop)]
+#[derive(Clone, Copy)]
 pub struct ComputedWord {
     pub value: u16,
     pub flags: u8,

@@ -8,7 +8,7 @@ use sm83::{Cpu, HaltMode};
 
 pub const STATE_LENGTH: usize = 24;
 
-#[derive(Drop)]
+#[derive(Clone, Copy)]
 pub enum StateRead {
     State(Cpu),
     Malformed,

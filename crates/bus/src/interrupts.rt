@@ -74,7 +74,7 @@ fn take_next_interrupt(mem: &mut [u8]) -> NextInterrupt
 }
 
 // What the push that takes answers.
-#[derive(Drop)]
+#[derive(Clone, Copy)]
 pub struct Taken {
     pub port: Port,
     pub next: NextInterrupt,

@@ -1,6 +1,8 @@
 // The bus: plain memory, the 65,536 bytes that the caller lends, and a port that counts the M-cycles. It is shut: a read,
 // a write, an idle access, a peek and the push that takes an interrupt each say where the definition's node leads, and
 // nothing else of port or bytes.
+#![tactic(auto)]
+
 ghost use Rattle.std.specs.Prelude.{◌≡◌, length};
 ghost use Rattle.bus.specs.World.{kind_of, counted, Reads, Writes, Idles};
 
@@ -11,19 +13,19 @@ pub mod fetch;
 pub mod interrupts;
 
 // What an access is for, as its caller says. Plain memory does the same for each.
-#[derive(Drop)]
+#[derive(Clone, Copy)]
 pub enum AccessKind {
     Fetch,
     Operand,
     Stack,
 }
 
-#[derive(Drop)]
+#[derive(Clone, Copy)]
 pub struct Port {
     pub cycles: MCycles,
 }
 
-#[derive(Drop)]
+#[derive(Clone, Copy)]
 pub struct Got {
     pub port: Port,
     pub value: u8,
@@ -68,21 +70,21 @@ pub fn idle(port: Port, mem: &mut [u8]) -> Port
 }
 
 // What the parts of an instruction answer: the state and the port as they leave them, and a value.
-#[derive(Drop)]
+#[derive(Clone, Copy)]
 pub struct Val8 {
     pub cpu: Cpu,
     pub port: Port,
     pub value: u8,
 }
 
-#[derive(Drop)]
+#[derive(Clone, Copy)]
 pub struct Val16 {
     pub cpu: Cpu,
     pub port: Port,
     pub value: u16,
 }
 
-#[derive(Drop)]
+#[derive(Clone, Copy)]
 pub struct Both {
     pub cpu: Cpu,
     pub port: Port,

@@ -8,7 +8,7 @@ use crate::grammar::{Command, Part, Turn, may_lack};
 use crate::line::{Line, Mistake, Stage};
 
 // What a whole line asks for.
-#[derive(Drop)]
+#[derive(Clone, Copy)]
 pub enum Asked {
     Help(Command),
     Obey(Command),

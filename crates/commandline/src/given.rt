@@ -5,7 +5,7 @@ ghost use Rattle.commandline.specs.Given.{is_given, word_or, address_or, number_
 use crate::grammar::{Command, Power};
 
 // A path is kept by its word's index.
-#[derive(Drop)]
+#[derive(Clone, Copy)]
 pub enum Given {
     Nothing,
     Alone,

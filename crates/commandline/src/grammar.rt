@@ -6,7 +6,7 @@ ghost use Rattle.commandline.specs.Grammar.{PlaceOf, turn_of, may_lack, allows, 
 
 use text::lines::number_of;
 
-#[derive(Drop)]
+#[derive(Clone, Copy)]
 pub enum Command {
     Screen,
     Run,
@@ -18,7 +18,7 @@ pub enum Command {
 }
 
 // What a word after the command stands for: an unnamed word, by its turn, or an option.
-#[derive(Drop)]
+#[derive(Clone, Copy)]
 pub enum Part {
     Image,
     First,
@@ -79,7 +79,7 @@ pub(crate) fn place(part: Part) -> usize
 }
 
 // The states at power-on.
-#[derive(Drop)]
+#[derive(Clone, Copy)]
 pub enum Power {
     Dmg,
     Cgb,
@@ -88,7 +88,7 @@ pub enum Power {
 }
 
 // The words that are still to come, in their order.
-#[derive(Drop)]
+#[derive(Clone, Copy)]
 pub enum Turn {
     Nothing,
     One(Part),
@@ -196,7 +196,7 @@ pub(crate) fn allows(command: Command, part: Part) -> bool
 }
 
 // The kind of a value; an option without one stands alone.
-#[derive(Drop)]
+#[derive(Clone, Copy)]
 pub enum Kind {
     Alone,
     Path,
@@ -273,7 +273,7 @@ pub(crate) fn is_alone(values: Turn) -> bool
 }
 
 // What a word names. The numbers are those of the lines in front.
-#[derive(Drop)]
+#[derive(Clone, Copy)]
 pub enum NamedCommand {
     Is(Command),
     Unknown,
@@ -297,7 +297,7 @@ pub(crate) fn command_named(word: &[u8]) -> NamedCommand
     }
 }
 
-#[derive(Drop)]
+#[derive(Clone, Copy)]
 pub enum NamedOption {
     Is(Part),
     Unknown,
@@ -332,7 +332,7 @@ pub(crate) fn option_named(word: &[u8]) -> NamedOption
     }
 }
 
-#[derive(Drop)]
+#[derive(Clone, Copy)]
 pub enum NamedPower {
     Is(Power),
     Unknown,

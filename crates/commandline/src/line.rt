@@ -9,7 +9,7 @@ use crate::grammar::{Command, PARTS, Part, Power, Turn, place};
 use text::number::Fault;
 
 // What is wrong with a line: what it is about, and the index of the word.
-#[derive(Drop)]
+#[derive(Clone, Copy)]
 pub enum Mistake {
     NoCommand,
     UnknownCommand(usize),
@@ -28,7 +28,7 @@ pub enum Mistake {
 
 // Which word may come next: the command; an option, or the first of the unnamed words that are left; the value of an option, after which
 // more of its values may be due. After a mistake none does.
-#[derive(Drop)]
+#[derive(Clone, Copy)]
 pub enum Stage {
     Start,
     Takes(Command, Turn),
@@ -37,12 +37,12 @@ pub enum Stage {
 }
 
 // An array in a struct holds structs, for the prover, and no enums.
-#[derive(Drop)]
+#[derive(Clone, Copy)]
 pub struct Cell {
     pub given: Given,
 }
 
-#[derive(Drop)]
+#[derive(Clone, Copy)]
 pub struct Line {
     pub stage: Stage,
     cells: [Cell; PARTS],

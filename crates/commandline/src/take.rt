@@ -15,7 +15,7 @@ use text::address::address_in;
 use text::number::{Number, number_in};
 
 // A word read as a value.
-#[derive(Drop)]
+#[derive(Clone, Copy)]
 pub enum Read {
     As(Given),
     Not(Mistake),

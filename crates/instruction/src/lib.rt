@@ -1,4 +1,6 @@
 // Instructions as 000 and 001 shape them: an opcode, where its operand comes from, where its result goes; and the two tables that give one for each byte.
+#![tactic(auto)]
+
 pub mod conditions;
 mod decoding;
 mod entry_codes;
@@ -7,7 +9,7 @@ mod numbered;
 mod operand;
 pub mod prefixed_table;
 
-#[derive(Drop)]
+#[derive(Clone, Copy)]
 pub enum Condition {
     NC,
     C,
@@ -16,7 +18,7 @@ pub enum Condition {
     Unconditional,
 }
 
-#[derive(Drop)]
+#[derive(Clone, Copy)]
 pub enum OperandType {
     RegA,
     RegB,
@@ -46,7 +48,7 @@ pub enum OperandType {
     Implied,
 }
 
-#[derive(Drop)]
+#[derive(Clone, Copy)]
 pub enum Opcode {
     Nop,
     Stop,
@@ -104,7 +106,7 @@ pub enum Opcode {
     Halt,
 }
 
-#[derive(Drop)]
+#[derive(Clone, Copy)]
 pub struct Instruction {
     pub opcode: Opcode,
     pub src: OperandType,

@@ -1,5 +1,7 @@
 // The core for C and Rust to link: power-on, a step, a run and the screen on blocks of bytes (include/phkarotuk.h has the offsets).
 // Each answers the document's number, or 255 if a block is malformed; then nothing is changed.
+#![tactic(auto)]
+
 ghost use Rattle.std.specs.Prelude.{◌≡◌};
 ghost use Rattle.library.specs.Left.{left, run_blocks};
 ghost use Rattle.library.specs.Screened.{left_by_screen, screen_blocks};

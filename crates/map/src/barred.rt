@@ -4,7 +4,7 @@ ghost use Rattle.opcodes.specs.Instruction.{decode};
 ghost use Rattle.map.specs.Barred.{barred_of};
 
 // "the eleven of refusal 3, STOP, HALT, EI, RETI, JP HL, every CALL and RST"; anything else is allowed.
-#[derive(Drop)]
+#[derive(Clone, Copy)]
 pub enum Barred {
     Allowed,
     Illegal,

@@ -8,7 +8,7 @@ use routine::Verdict;
 use sm83::Addr;
 
 // The refused byte, if one is `found`, and whether the walk ends there.
-#[derive(Drop)]
+#[derive(Clone, Copy)]
 pub struct Stop {
     pub found: bool,
     pub at: Addr,
@@ -16,7 +16,7 @@ pub struct Stop {
 }
 
 // A byte's kind, the operand bytes still to come after it, and whether the walk has ended.
-#[derive(Drop)]
+#[derive(Clone, Copy)]
 pub struct Cell {
     pub kind: u8,
     pub left: u8,

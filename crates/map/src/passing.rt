@@ -7,7 +7,7 @@ use routine::Verdict;
 use screen::{LONGEST_WINDOW, screen};
 use sm83::Addr;
 
-#[derive(Drop)]
+#[derive(Clone, Copy)]
 pub enum Passing {
     Never,
     UpTo(Addr),

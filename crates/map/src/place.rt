@@ -6,7 +6,7 @@ use crate::byte::byte;
 use crate::opcode::length_of;
 use sm83::Addr;
 
-#[derive(Drop)]
+#[derive(Clone, Copy)]
 pub enum Place {
     Outside,
     Start,
@@ -14,7 +14,7 @@ pub enum Place {
 }
 
 // Where the instruction that the walk is in began, and how many bytes of it are still to come.
-#[derive(Drop)]
+#[derive(Clone, Copy)]
 pub struct Walk {
     pub start: u16,
     pub left: u8,

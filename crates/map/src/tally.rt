@@ -7,7 +7,7 @@ use crate::byte::byte;
 use crate::opcode::is_jump;
 use sm83::Addr;
 
-#[derive(Drop)]
+#[derive(Clone, Copy)]
 pub struct Counts {
     pub instructions: u64,
     pub jumps: u64,

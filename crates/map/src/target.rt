@@ -12,7 +12,7 @@ use screen::class::shape_of;
 use sm83::Addr;
 use sm83::registers::pair;
 
-#[derive(Drop)]
+#[derive(Clone, Copy)]
 pub enum Target {
     Nowhere,
     To(Addr),

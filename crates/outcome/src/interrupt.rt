@@ -2,7 +2,7 @@
 ghost use Rattle.std.specs.Prelude.{◌≡◌};
 ghost use Rattle.outcome.specs.Interrupts.{interrupt_number, is_pending};
 
-#[derive(Drop)]
+#[derive(Clone, Copy)]
 pub enum InterruptType {
     Vblank,
     LcdStat,
@@ -28,7 +28,7 @@ impl InterruptType {
 }
 
 // What peeking and taking answer: `Option<InterruptType>` of the Rust.
-#[derive(Drop)]
+#[derive(Clone, Copy)]
 pub enum NextInterrupt {
     NonePending,
     Pending(InterruptType),

@@ -1,4 +1,6 @@
 // What a step and a run answer: how it ended, or why it was refused. The numbers are the document's; what the screen answers stands in `routine`.
+#![tactic(auto)]
+
 ghost use Rattle.std.specs.Prelude.{◌≡◌};
 ghost use Rattle.outcome.specs.Numbers.{number_of, outcome_number, last_number};
 
@@ -8,7 +10,7 @@ use sm83::CpuRegisters;
 pub mod interrupt;
 
 // Why a step or a run says no, in the order of the document's table. The screen's refusals are a kind of their own.
-#[derive(Drop)]
+#[derive(Clone, Copy)]
 pub enum Refusal {
     MemoryLength,
     LowBitsOfF,
@@ -29,7 +31,7 @@ impl Refusal {
 }
 
 // `CpuState` and `RunError` of the Rust in one.
-#[derive(Drop)]
+#[derive(Clone, Copy)]
 pub enum Outcome {
     Normal,
     InfiniteLoop,
@@ -61,7 +63,7 @@ impl Outcome {
 }
 
 // How a run ended: with its last step's outcome, or with a budget of 0.
-#[derive(Drop)]
+#[derive(Clone, Copy)]
 pub enum LastOutcome {
     NothingRun,
     Last(Outcome),

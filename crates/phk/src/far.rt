@@ -9,7 +9,7 @@ use sm83::Cpu;
 
 // Why a run was ended before its last step: it was not; a line of its trace could not be written; a person asked for it; the next
 // instruction is not in the image.
-#[derive(Drop)]
+#[derive(Clone, Copy)]
 pub enum Cut {
     Not,
     Lost,
@@ -18,7 +18,7 @@ pub enum Cut {
 }
 
 // How far a run has come.
-#[derive(Drop)]
+#[derive(Clone, Copy)]
 pub struct Far {
     pub cpu: Cpu,
     pub last: LastOutcome,

@@ -21,7 +21,7 @@ fn room_from(from: u16) -> usize
 }
 
 // What was read of an image.
-#[derive(Drop)]
+#[derive(Clone, Copy)]
 enum Image {
     Unreadable,
     TooLong,
@@ -85,7 +85,7 @@ fn read_part(fd: i32, mem: &mut [u8], from: usize) -> usize {
 }
 
 // Whether the image was read, and which bytes of memory it has.
-#[derive(Drop)]
+#[derive(Clone, Copy)]
 pub struct Loaded {
     pub done: bool,
     pub held: Held,

@@ -10,7 +10,7 @@ const LAST: usize = PATH_MAX - 1;
 
 // What the system says of a file: its kind and rights (as libc::S_IFMT cuts them), which file it is (the same device and number: the same file),
 // and whose. It says nothing where found is false; errno tells why.
-#[derive(Drop)]
+#[derive(Clone, Copy)]
 pub struct Looked {
     pub found: bool,
     pub mode: u32,

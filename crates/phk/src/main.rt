@@ -2,6 +2,8 @@
 // `help`; the image is read in `files`, memory written in `saving`, which asks `look` what stands there. The screen is in `screening`, a run
 // in `machine`, one within a window in `within`, from where it starts in `start`, how far it has come in `far`, what it is looked at for in
 // `view`; bytes and the stack in `showing`. What the command line means is in `commandline`; here the line is read and obeyed.
+#![tactic(auto)]
+
 ghost use Rattle.std.specs.Prelude.{◌≡◌};
 ghost use Rattle.commandline.specs.Finish.{finished};
 ghost use Rattle.phk.specs.Status.{done, bad_usage, Obeyed, Answered};

@@ -18,7 +18,7 @@ pub const STOPPED_BY_HAND: u8 = 130;
 // The launcher's word comes first and begins with @: then c, colours on standard output, or -; p, progress on standard error, or -; s,
 // there is a launcher, which hears the status and tells when to stop; w, lines may have 100 columns, or -. `first` is the first word
 // of the command line proper.
-#[derive(Drop)]
+#[derive(Clone, Copy)]
 pub struct Env {
     pub first: usize,
     pub colour: bool,

@@ -10,7 +10,7 @@ use commandline::line::Line;
 use text::page::put;
 
 // What stands at the name that --out gives.
-#[derive(Drop)]
+#[derive(Clone, Copy)]
 pub enum Target {
     Nothing,
     Link,

@@ -5,13 +5,13 @@ ghost use Rattle.phk.specs.View.{holds, is_whole, is_single, is_outside, unseen}
 use map::opcode::length_of;
 
 // The bytes of memory that the image has: `length` of them, from an address on.
-#[derive(Drop)]
+#[derive(Clone, Copy)]
 pub struct Held {
     pub from: u16,
     pub length: u32,
 }
 
-#[derive(Drop)]
+#[derive(Clone, Copy)]
 pub struct View {
     pub trace: bool,
     pub progress: bool,

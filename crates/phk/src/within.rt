@@ -30,7 +30,7 @@ use watch::watch;
 use watch::written::next_writes;
 
 // How far a watched run has come, why the watch ended, and whether the last step took a return.
-#[derive(Drop)]
+#[derive(Clone, Copy)]
 pub struct Seen {
     pub far: Far,
     pub why: Why,

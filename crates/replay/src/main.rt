@@ -1,4 +1,6 @@
 // Replays the stored sample: replay FILE. Each record is asked of the core and every value compared; then what was met is counted.
+#![tactic(auto)]
+
 mod report;
 mod rounds;
 mod runs;

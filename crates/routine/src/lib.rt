@@ -1,11 +1,13 @@
 // The routine screen as a definition (specs/), and what a routine that it passes keeps (proofs/). Of code only the kinds and their numbers: the screen itself is the crate `screen`.
+#![tactic(auto)]
+
 ghost use Rattle.std.specs.Prelude.{◌≡◌};
 ghost use Rattle.routine.specs.Numbers.{number_of, verdict_number};
 
 use sm83::Addr;
 
 // Where control may go from an instruction: on, nowhere that any screen allows, back to the caller, to an address that it holds or counts from, into a routine; `If`: or on.
-#[derive(Drop)]
+#[derive(Clone, Copy)]
 pub enum Class {
     Basic,
     Barred,
@@ -20,14 +22,14 @@ pub enum Class {
 }
 
 // The screen's tests of one marked address, after the walk: that it ends the routine if it is the last, 9; that it lands on a mark if it jumps, 10.
-#[derive(Drop)]
+#[derive(Clone, Copy)]
 pub enum Test {
     Ends,
     Lands,
 }
 
 // Why the screen says no, in the order of the document's table. A step's refusals are a kind of their own.
-#[derive(Drop)]
+#[derive(Clone, Copy)]
 pub enum ScreenRefusal {
     MemoryLength,
     WindowReversed,
@@ -58,7 +60,7 @@ impl ScreenRefusal {
 }
 
 // What the screen says of a window. A refusal from before the walk names no address.
-#[derive(Drop)]
+#[derive(Clone, Copy)]
 pub enum Verdict {
     Passes,
     Refused(ScreenRefusal),

@@ -1,1 +1,2 @@
 // The document's worked rows, computed by the definition on whole memories. No code.
+#![tactic(auto)]

@@ -1,4 +1,6 @@
 // The run with its budget, and the step. Any state, any slice.
+#![tactic(auto)]
+
 ghost use Rattle.std.specs.Prelude.{◌≡◌};
 ghost use Rattle.definition.specs.Bus.{plain};
 ghost use Rattle.definition.specs.Run.{run_for};
@@ -13,7 +15,7 @@ use sm83::{Cpu, MCycles};
 pub mod ending;
 mod repeat;
 
-#[derive(Drop)]
+#[derive(Clone, Copy)]
 pub struct Ran {
     pub last: LastOutcome,
     pub cpu: Cpu,
@@ -21,7 +23,7 @@ pub struct Ran {
     pub cycles: MCycles,
 }
 
-#[derive(Drop)]
+#[derive(Clone, Copy)]
 pub struct Stepped {
     pub outcome: Outcome,
     pub cpu: Cpu,

@@ -43,7 +43,7 @@ pub(crate) fn ends_routine(class: Class) -> bool
 }
 
 // Its length in bytes, and its class.
-#[derive(Drop)]
+#[derive(Clone, Copy)]
 pub struct Shape(pub u8, pub Class);
 
 // "Length and class are decided by ranges of the opcode byte, CB opcodes being two bytes long."

@@ -1,4 +1,6 @@
 // The routine screen: the tests before the walk, the walk, and the tests after it.
+#![tactic(auto)]
+
 ghost use Rattle.std.specs.Prelude.{◌≡◌, [], ◌∷◌, map, length};
 ghost use Rattle.routine.specs.Screen.{is_marked, scan_for, first_of, tests, verdict, screen};
 ghost use Rattle.screen.specs.Parts.{Inside, Finds, Screens};

@@ -1,19 +1,21 @@
 // The kinds of the processor: addresses, registers, the state. What they mean stands in specs/; what the processor does with them is defined in
 // the crates `opcodes` and `definition`.
+#![tactic(auto)]
+
 mod address;
 pub mod flags;
 pub mod registers;
 pub mod state;
 
 // An address and a count of M-cycles: two kinds, so that they are never mixed up.
-#[derive(Drop)]
+#[derive(Clone, Copy)]
 pub struct Addr(pub u16);
 
-#[derive(Drop)]
+#[derive(Clone, Copy)]
 pub struct MCycles(pub u32);
 
 // The order of the fields is the faster of those that were timed (docs/SPEED.md); nothing else depends on it.
-#[derive(Drop)]
+#[derive(Clone, Copy)]
 pub struct CpuRegisters {
     pub a: u8,
     pub b: u8,
@@ -27,7 +29,7 @@ pub struct CpuRegisters {
     pub pc: Addr,
 }
 
-#[derive(Drop)]
+#[derive(Clone, Copy)]
 pub enum HaltMode {
     NotHalting,
     HaltRunInterrupt,
@@ -35,7 +37,7 @@ pub enum HaltMode {
     HaltBug,
 }
 
-#[derive(Drop)]
+#[derive(Clone, Copy)]
 pub struct Cpu {
     pub registers: CpuRegisters,
     pub ime: bool,

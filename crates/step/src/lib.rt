@@ -1,4 +1,6 @@
 // One step: `next_instruction`, stage by stage in the order of the Rust. The two tables are lent.
+#![tactic(auto)]
+
 ghost use Rattle.definition.specs.Step.{instruction, awake, step};
 ghost use Rattle.instruction.specs.Entry.{Tables};
 ghost use Rattle.bus.specs.World.{Given};
@@ -20,7 +22,7 @@ mod fetch;
 pub mod waking;
 
 // What comes of a halt: whether it goes on.
-#[derive(Drop)]
+#[derive(Clone, Copy)]
 pub struct Woken {
     pub cpu: Cpu,
     pub port: Port,
@@ -28,7 +30,7 @@ pub struct Woken {
 }
 
 // The table's entry for what is to be executed, the byte that it stands at, and from where it was fetched.
-#[derive(Drop)]
+#[derive(Clone, Copy)]
 pub struct Fetched {
     pub cpu: Cpu,
     pub port: Port,

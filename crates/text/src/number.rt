@@ -4,7 +4,7 @@ ghost use Rattle.text.specs.Within.{Within};
 ghost use Rattle.text.specs.Number.{digit_of, times_base, grown, decimal, hexadecimal, read_decimal, read_hex, begun, after_zero, read_byte, ended, read_on, number_in};
 
 // Why a text is no number.
-#[derive(Drop)]
+#[derive(Clone, Copy)]
 pub enum Fault {
     Empty,
     NotADigit,
@@ -15,14 +15,14 @@ pub enum Fault {
     TooLarge,
 }
 
-#[derive(Drop)]
+#[derive(Clone, Copy)]
 pub enum Number {
     Is(u64),
     Not(Fault),
 }
 
 // A byte as a digit: 0 to 9, a letter that counts 10 to 15, an h, or none.
-#[derive(Drop)]
+#[derive(Clone, Copy)]
 pub enum Digit {
     Decimal(u8),
     Letter(u8),
@@ -31,7 +31,7 @@ pub enum Digit {
 }
 
 // What has been read: nothing, a 0, decimal digits, 0x, 0x with digits; or the first mistake.
-#[derive(Drop)]
+#[derive(Clone, Copy)]
 pub enum Reading {
     Nothing,
     Zero,

@@ -9,7 +9,7 @@ use map::byte::byte;
 use sm83::{Addr, Cpu, CpuRegisters};
 use step::waking::{is_asleep, is_bug};
 
-#[derive(Drop)]
+#[derive(Clone, Copy)]
 pub enum Course {
     Rests,
     Dispatches,

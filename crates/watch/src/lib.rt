@@ -1,4 +1,6 @@
 // A run that is watched in a window: which addresses start an instruction, what the next step writes, and why the watch ends.
+#![tactic(auto)]
+
 ghost use Rattle.std.specs.Prelude.{◌≡◌};
 ghost use Rattle.watch.specs.Reasons.{watch_on, watch_answer};
 
@@ -16,7 +18,7 @@ pub mod reasons;
 pub mod starts;
 pub mod written;
 
-#[derive(Drop)]
+#[derive(Clone, Copy)]
 pub struct Watched {
     pub why: Why,
     pub ran: Ran,

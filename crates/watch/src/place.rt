@@ -14,7 +14,7 @@ use map::byte::byte;
 use sm83::registers::pair;
 use sm83::{Addr, CpuRegisters};
 
-#[derive(Drop)]
+#[derive(Clone, Copy)]
 pub enum Place {
     Nowhere,
     AtBC,

@@ -11,7 +11,7 @@ use crate::written::Written;
 use outcome::{LastOutcome, Outcome};
 use sm83::{Addr, Cpu};
 
-#[derive(Drop)]
+#[derive(Clone, Copy)]
 pub enum Why {
     // the watch goes on
     Stays,

@@ -9,7 +9,7 @@ use map::opcode::length_of;
 use sm83::{Addr, Cpu};
 
 // A byte's mark, and how many operand bytes are still to come after it.
-#[derive(Drop)]
+#[derive(Clone, Copy)]
 pub struct Turn {
     pub mark: u8,
     pub left: u8,

@@ -10,7 +10,7 @@ use crate::place::{place_of, pushed, writes_at};
 use map::byte::byte;
 use sm83::{Addr, Cpu};
 
-#[derive(Drop)]
+#[derive(Clone, Copy)]
 pub enum Written {
     Nothing,
     One(Addr),
