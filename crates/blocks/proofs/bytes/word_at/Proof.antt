@@ -1,7 +1,0 @@
--- Shows a word read low byte first, by search.
-use borrow.Author.Rules.{rules}
-use Rattle.blocks.proofs.bytes.word_at.Statement.{statement}
-use Rattle.blocks.proofs.bytes.word_at.Tie as tie
-
-pub word-at-spec : {M : Type 1} → statement M
-word-at-spec = tie.close (tie.spec (λ c. search rules) (λ c. search rules) (λ c. search rules) (λ c κs. search rules) (λ c. search rules))

@@ -1,7 +1,0 @@
--- Shows an interrupt's number, by search.
-use borrow.Author.Rules.{rules}
-use Rattle.outcome.proofs.interrupt.InterruptType.number.Statement.{statement}
-use Rattle.outcome.proofs.interrupt.InterruptType.number.Tie as tie
-
-pub number-spec : {M : Type 1} → statement M
-number-spec = tie.close (tie.spec (λ c. search rules) (λ c. search rules) (λ c. search rules) (λ c. search rules) (λ c. search rules) (λ c. search rules) (λ c. search rules) (λ c. search rules) (λ c. search rules) (λ c. search rules))

@@ -1,7 +1,0 @@
--- Shows DE as its two bytes, by search.
-use Rattle.std.proofs.Common.{rules}
-use Rattle.sm83.proofs.CpuRegisters.reg_de_read.Statement.{statement}
-use Rattle.sm83.proofs.CpuRegisters.reg_de_read.Tie as tie
-
-pub reg-de-read-spec : {M : Type 1} → statement M
-reg-de-read-spec = tie.close (tie.spec (λ c κs. search rules) (λ c. search rules))
