@@ -1,5 +1,5 @@
 -- INC and DEC, and BIT, RES and SET: what they do to a byte and its flags, each a small law; the bits by one computed test over every byte and place.
-use mathlib.Core.Path.{◌≡◌, refl, ap, sym, subst, ◌∙◌}
+use mathlib.Core.Path.{◌≡◌, refl, sym, subst}
 use mathlib.Core.Bool.{Bool, true, false, ◌&&◌}
 use Prim.Native.Nat.{ℕ, suc, ◌+◌, ◌-◌, ◌*◌, ◌/◌, ◌%◌, ◌^◌, ◌<◌}
 use native.Mathlib.Omega.{arith}
@@ -8,7 +8,7 @@ use lib.Bits.{bit_and, bit_or}
 use Rattle.sm83.specs.Basics.{bit, bit_at, cleared, raised}
 use Rattle.sm83.specs.Flags.{flag_z, flag_h, flag_c}
 use Rattle.opcodes.specs.Arithmetic.{is_zero, increment, decrement, bit_test}
-use Rattle.opcodes.proofs.Flags.{read_z, read_c}
+use Rattle.opcodes.proofs.Flags.{read_z}
 use Rattle.opcodes.proofs.Tested.{and_left, and_right, below, at, agree_at_both}
 use Rattle.opcodes.proofs.Carries.{by_h}
 

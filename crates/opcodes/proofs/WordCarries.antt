@@ -1,14 +1,14 @@
 -- ADD HL and the signed sums on SP: H and C are what the named bits carry over, and the value is the sum, or the difference, modulo 65,536.
-use mathlib.Core.Path.{◌≡◌, refl, ap, sym, subst, ◌∙◌}
+use mathlib.Core.Path.{◌≡◌, refl, ap, sym, subst}
 use mathlib.Core.Bool.{Bool, true, false, not}
-use Prim.Native.Nat.{ℕ, ◌+◌, ◌-◌, ◌*◌, ◌/◌, ◌%◌, ◌≤◌, ◌<◌}
+use Prim.Native.Nat.{ℕ, ◌+◌, ◌-◌, ◌*◌, ◌%◌, ◌≤◌, ◌<◌}
 use native.Mathlib.Omega.{arith}
 use lib.Dec.{leb, ltb, T, ltb→lt, nltb→le}
-use Rattle.sm83.specs.Basics.{if◌then◌else◌, bit, signed, offset}
+use Rattle.sm83.specs.Basics.{if◌then◌else◌, bit, offset}
 use Rattle.sm83.specs.Flags.{flag_z, flag_n, flag_h, flag_c}
 use Rattle.opcodes.specs.Arithmetic.{word_sum_flags, offset_flags}
 use Rattle.opcodes.proofs.Flags.{read_z, read_n}
-use Rattle.opcodes.proofs.Carries.{nibble, byte, twelve, whole, low_16, by_c, by_h}
+use Rattle.opcodes.proofs.Carries.{nibble, byte, twelve, whole, by_c, by_h}
 
 -- ADD HL,r16: C is the seventeenth bit of the sum, H the thirteenth of the low twelve bits'
 module _ (x y f : ℕ) (word-x : x < 65536) (word-y : y < 65536) where

@@ -1,6 +1,6 @@
 -- The instructions, named as the reference (gbz80(7)) names them, and which of them a byte stands for.
 -- A byte is decoded by its octal fields, as the hardware does: its two high bits, the next three, and the low three.
-use Rattle.std.specs.Prelude.{List, [], ◌∷◌, ℕ, suc, ◌+◌, ◌*◌, ◌/◌, ◌%◌, get_or}
+use Rattle.std.specs.Prelude.{[], ◌∷◌, ℕ, suc, ◌*◌, ◌/◌, ◌%◌, get_or}
 
 -- r8 of the reference, in the order of the byte's low three bits
 pub data Reg8 : Type 0 where

@@ -12,7 +12,7 @@ use Rattle.outcome.specs.declared.Outcome.TheVariants.{Normal, InfiniteLoop, Hal
 use Rattle.outcome.specs.declared.LastOutcome.{LastOutcome}
 use Rattle.outcome.specs.declared.LastOutcome.TheVariants.{NothingRun, Last}
 use Rattle.outcome.specs.Interrupts.{interrupt_number}
-use Rattle.outcome.specs.Numbers.{Values, no_value, the_interrupt, the_registers, the_address, Said, says, outcome_says, last_says}
+use Rattle.outcome.specs.Numbers.{Values, no_value, the_interrupt, the_registers, the_address, Said, outcome_says, last_says}
 
 -- "Interrupts 0 to 4": the five vectors have a place for each
 pub one_of_five : (i : InterruptType) → interrupt_number i < 5
