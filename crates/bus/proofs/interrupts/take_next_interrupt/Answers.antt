@@ -1,0 +1,21 @@
+-- Shows taking: one where there is one, by the laws of taking.
+use Rattle.std.proofs.Common.{sym, ◌∙◌, rules}
+use Rattle.bus.proofs.Taking.{one_taken, none_taken}
+use Rattle.bus.proofs.interrupts.take_next_interrupt.Goals as goal
+
+pub returns-in-NonePending : goal.returns-in-NonePending
+returns-in-NonePending c =
+    let look = c.lowest_pending-next.ensures in
+    let none_pending = c.enum_told-1.given.1 in
+    record { seen = look.seen; left = look.same ∙ none_taken _ _ look.seen none_pending; whole = look.whole }
+
+pub returns-in-Pending : goal.returns-in-Pending
+returns-in-Pending c =
+    let clear = c.acknowledge.ensures in
+    let pending = c.next-1.given.1 in
+    let look = c.lowest_pending-next.ensures in
+    record {
+      seen = sym pending ∙ look.seen;
+      left = rw (← look.same) (one_taken _ _ _ _ (rw look.same look.seen) pending clear.left);
+      whole = clear.whole;
+    }
