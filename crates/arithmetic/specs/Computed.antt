@@ -9,8 +9,8 @@ abbrev pub computed : Result → Computed
 computed r = record { value = r.value; flags = r.flags }
 
 -- and back
-abbrev pub result : Computed → Result
-result r = record { value = r.value; flags = r.flags }
+abbrev pub result_of : Computed → Result
+result_of r = record { value = r.value; flags = r.flags }
 
 -- a byte with its four flags
 abbrev pub byte_with : ℕ → Bool → Bool → Bool → Bool → Computed

@@ -1,0 +1,6 @@
+-- Shows SCF: `flagged`'s answer, with Z as it was.
+use borrow.Author.Rules.{rules}
+use Rattle.bits.proofs.logic.scf.Goals as goal
+
+pub returns : goal.returns
+returns c = simp (c.flagged.ensures, c.flag_z.ensures)

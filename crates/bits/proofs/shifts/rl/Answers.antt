@@ -1,0 +1,6 @@
+-- Shows the rotation through the carry, with the carry in as a bit.
+use borrow.Author.Rules.{rules}
+use Rattle.bits.proofs.shifts.rl.Goals as goal
+
+pub returns : goal.returns
+returns c = simp (c.with_carry_out.ensures, c.bit_of.ensures.is, c.flag_c.ensures)

@@ -1,0 +1,6 @@
+-- Shows the rotation of A: that of any byte, without Z.
+use borrow.Author.Rules.{rules}
+use Rattle.bits.proofs.shifts.rra.Goals as goal
+
+pub returns : goal.returns
+returns c = simp (c.without_z.ensures, c.rr.ensures)

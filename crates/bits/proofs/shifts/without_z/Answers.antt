@@ -1,0 +1,6 @@
+-- Shows a rotation of A, which clears Z.
+use borrow.Author.Rules.{rules}
+use Rattle.bits.proofs.shifts.without_z.Goals as goal
+
+pub returns : goal.returns
+returns c = simp (c.flagged.ensures, c.flag_c-c.ensures)
