@@ -6,13 +6,13 @@ use Rattle.bus.proofs.interrupts.take_next_interrupt.Goals as goal
 pub returns-in-NonePending : goal.returns-in-NonePending
 returns-in-NonePending c =
     let look = c.lowest_pending-next.ensures in
-    let none_pending = c.enum_told-1.given.1 in
+    let none_pending = c.in-NonePending.is in
     record { seen = look.seen; left = look.same ∙ none_taken _ _ look.seen none_pending; whole = look.whole }
 
 pub returns-in-Pending : goal.returns-in-Pending
 returns-in-Pending c =
     let clear = c.acknowledge.ensures in
-    let pending = c.next-1.given.1 in
+    let pending = c.in-Pending.is in
     let look = c.lowest_pending-next.ensures in
     record {
       seen = sym pending ∙ look.seen;
