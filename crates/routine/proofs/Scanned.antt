@@ -9,7 +9,6 @@ use native.Mathlib.Omega.{arith}
 use lib.Dec.{T, T_not, not_T, eqb, eqb→eq}
 use borrow.Author.Tests.{eq-eqb}
 use mir.Facts.{and_yes, yes_and, T_not-not}
-use Rattle.routine.specs.declared.ScreenRefusal.{ScreenRefusal}
 use Rattle.routine.specs.declared.Verdict.{Verdict}
 use Rattle.sm83.specs.Basics.{if◌then◌else◌}
 use Rattle.routine.specs.declared.Test.{Test}

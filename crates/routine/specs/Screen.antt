@@ -1,5 +1,5 @@
 -- What the screen answers of a window and leaves in the marks: the tests before the walk, the walk, and the tests after it.
-use Rattle.std.specs.Prelude.{Bool, true, false, not, ◌&&◌, List, [], ◌∷◌, map, ℕ, zero, suc, ◌+◌, ◌-◌, eqb, leb, ltb, get_or, length, replicate}
+use Rattle.std.specs.Prelude.{Bool, true, not, ◌&&◌, List, [], ◌∷◌, map, ℕ, zero, suc, ◌+◌, ◌-◌, eqb, leb, ltb, get_or, length, replicate}
 use Rattle.routine.specs.declared.ScreenRefusal.{ScreenRefusal}
 use Rattle.routine.specs.declared.ScreenRefusal.TheVariants.{MemoryLength, WindowReversed, WindowTooLong, MarksLength, ForbiddenOpcode, PastTheEnd, FallsThrough, JumpUnmarked}
 use Rattle.routine.specs.declared.Verdict.{Verdict}
