@@ -1,4 +1,5 @@
 -- The arms of a match on a number are right by one computed test of each over all numbers; the single numbers of an arm are read off the function's own code.
+use Rattle.std.proofs.Common.{if◌then◌else◌}
 use mathlib.Core.Path.{◌≡◌, refl}
 use mathlib.Core.Bool.{Bool, true, false, not}
 use mathlib.Core.List.{List, [], ◌∷◌}
@@ -9,7 +10,6 @@ use mir.Facts.{T_not-not}
 use mir.Syntax.{Body, skip, seq, assign, block, loop, cond, switch, exit, return, call, Arms, arm, default, no_default}
 use mir.Val.{has_key}
 use types.Run.{OneOf, hit, miss}
-use Rattle.sm83.specs.Basics.{if◌then◌else◌}
 use Rattle.opcodes.proofs.Tested.{upto, agree}
 
 -- the arms of a match that a function begins with, each by its single numbers
