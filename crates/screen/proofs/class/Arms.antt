@@ -7,7 +7,7 @@ use Prim.Native.Nat.{ℕ, ◌<◌}
 use lib.Dec.{T, not_T}
 use lib.Ieee.Bits.{is_true}
 use mir.Facts.{T_not-not}
-use mir.Syntax.{Body, skip, seq, assign, block, loop, cond, switch, exit, return, call, Arms, arm, default, no_default}
+use mir.Syntax.{Body, skip, seq, assign, block, loop, cond, switch, exit, return, call, call_v, lend_static, unreachable, Arms, arm, default, no_default}
 use mir.Val.{has_key}
 use types.Run.{OneOf, hit, miss}
 use Rattle.opcodes.proofs.Tested.{upto, agree}
@@ -29,6 +29,9 @@ arms_of (switch o arms) = numbers arms
 arms_of (exit n) = []
 arms_of return = []
 arms_of (call f os p) = []
+arms_of (call_v o f os p) = []
+arms_of (lend_static p f q) = []
+arms_of unreachable = []
 
 -- what the check knows of a number that is in a range: it is no single number of any arm
 abbrev pub Rest : Type 0 → List (List ℕ) → ℕ → Type 0
