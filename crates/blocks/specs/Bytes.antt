@@ -1,6 +1,6 @@
 -- Numbers as bytes, all words low byte first, and a block with bytes written over its front.
-use Rattle.std.specs.Prelude.{List, [], ◌∷◌, ◌++◌, ℕ, ◌+◌, ◌*◌, ◌/◌, ◌%◌, eqb, length, drop}
-use Rattle.sm83.specs.Basics.{if◌then◌else◌, word, high_byte, low_byte}
+use Rattle.std.specs.Prelude.{List, [], ◌∷◌, ◌++◌, ℕ, ◌+◌, ◌*◌, ◌/◌, ◌%◌, eqb, length, drop, if◌then◌else◌}
+use Rattle.sm83.specs.Basics.{word, high_byte, low_byte}
 use Rattle.definition.specs.Bus.{byte_at}
 
 -- a word: two bytes

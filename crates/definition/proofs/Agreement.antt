@@ -1,8 +1,8 @@
 -- The published tables are the columns by forms: one computed test of each table over all of its 256 opcodes.
+use Rattle.std.proofs.Common.{if◌then◌else◌}
 use mathlib.Core.Path.{◌≡◌, refl, ap, ◌∙◌}
 use mathlib.Core.Bool.{Bool, true, false}
 use Prim.Native.Nat.{ℕ, suc, ◌<◌}
-use Rattle.sm83.specs.Basics.{if◌then◌else◌}
 use Rattle.opcodes.specs.Instruction.{decode, decode_cb, length_of}
 use Rattle.opcodes.specs.Published.{FlagColumn, keep, entry, is_cb, one_of, bytes, cycles_not_taken, cycles_taken, cycles_after_cb, flag_columns, flag_columns_after_cb, illegal_opcodes, published_bytes, published_cycles, published_flags}
 use Rattle.opcodes.proofs.Tested.{agree}

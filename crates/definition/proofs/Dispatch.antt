@@ -1,4 +1,5 @@
 -- Point 4, the dispatch of an interrupt: on any memory what it asks and leaves, and on plain memory the whole step.
+use Rattle.std.proofs.Common.{if◌then◌else◌}
 use mathlib.Core.Path.{◌≡◌, refl, ap, ◌∙◌}
 use mathlib.Core.Bool.{Bool, true, false}
 use mathlib.Core.List.{List, [], ◌∷◌, ◌++◌}
@@ -9,7 +10,7 @@ use Rattle.sm83.specs.declared.Cpu.{Cpu}
 use Rattle.sm83.specs.declared.HaltMode.TheVariants.{NotHalting}
 use Rattle.outcome.specs.declared.Outcome.{Outcome}
 use Rattle.outcome.specs.declared.Outcome.TheVariants.{Normal, RunningInterrupt}
-use Rattle.sm83.specs.Basics.{if◌then◌else◌, high_byte, low_byte, back}
+use Rattle.sm83.specs.Basics.{high_byte, low_byte, back}
 use Rattle.definition.specs.Bus.{Access, Write, Idle, WriteAndTake, Stack, Bus, Performed, run_on, pending, taken, plain}
 use Rattle.outcome.specs.declared.interrupt.InterruptType.{InterruptType}
 use Rattle.outcome.specs.declared.interrupt.NextInterrupt.{NextInterrupt}

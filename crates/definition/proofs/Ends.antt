@@ -1,4 +1,5 @@
 -- A fact of every way in which a tree may end, whatever memory answers: of the accesses on the way and of the end. It holds of the tree on every kind of memory.
+use Rattle.std.proofs.Common.{if◌then◌else◌}
 use mathlib.Core.Path.{◌≡◌, refl}
 use mathlib.Core.Bool.{Bool, true, false}
 use mathlib.Core.List.{List, [], ◌∷◌}
@@ -7,7 +8,6 @@ use lib.ListN.{length}
 use Rattle.sm83.specs.declared.Cpu.{Cpu}
 use Rattle.outcome.specs.declared.interrupt.NextInterrupt.{NextInterrupt}
 use Rattle.outcome.specs.declared.Outcome.TheVariants.{Normal}
-use Rattle.sm83.specs.Basics.{if◌then◌else◌}
 use Rattle.definition.specs.Bus.{Operand, Stack, Ask, leaf, read, write, idle, peek, write_and_take, Access, Read, Write, Idle, WriteAndTake, Bus, run_on}
 use Rattle.sm83.specs.State.{pair_hl, pc, flags}
 use Rattle.opcodes.specs.Instruction.{Reg8, rB, rC, rD, rE, rH, rL, [HL], rA}

@@ -1,4 +1,5 @@
 -- Which interrupt is pending, and what taking it leaves: "the lowest set bit wins", "Taking it clears that bit alone at 0xFF0F".
+use Rattle.std.proofs.Common.{if◌then◌else◌}
 use mathlib.Core.Path.{◌≡◌, refl, ap, sym, ◌∙◌}
 use mathlib.Core.Logic.{◌≢◌}
 use mathlib.Core.Bool.{Bool, true, false}
@@ -11,7 +12,7 @@ use lib.Bits.{bit_and}
 use lib.ListN.{set, length}
 use lib.Seq.{get_or-set_same, get_or-set_other}
 use borrow.Author.Tests.{eqb-true, eqb-false}
-use Rattle.sm83.specs.Basics.{if◌then◌else◌, bit_at, cleared}
+use Rattle.sm83.specs.Basics.{bit_at, cleared}
 use Rattle.outcome.specs.declared.interrupt.InterruptType.{InterruptType}
 use Rattle.outcome.specs.declared.interrupt.InterruptType.TheVariants.{Vblank, LcdStat, Timer, Serial, Joypad}
 use Rattle.outcome.specs.declared.interrupt.NextInterrupt.{NextInterrupt}

@@ -1,4 +1,5 @@
 -- Each jump keeps to its columns, taken or not, whatever the state and whatever memory answers.
+use Rattle.std.proofs.Common.{if◌then◌else◌}
 use mathlib.Core.Path.{◌≡◌, refl}
 use mathlib.Core.Bool.{Bool, true, false}
 use mathlib.Core.List.{List, ◌∷◌}
@@ -6,7 +7,7 @@ use Prim.Native.Nat.{ℕ}
 use lib.Dec.{eqb}
 use Rattle.sm83.specs.declared.Cpu.{Cpu}
 use Rattle.outcome.specs.declared.Outcome.TheVariants.{Normal, InfiniteLoop}
-use Rattle.sm83.specs.Basics.{if◌then◌else◌, next, word, offset}
+use Rattle.sm83.specs.Basics.{next, word, offset}
 use Rattle.definition.specs.Bus.{Operand, Access, Read, Idle}
 use Rattle.sm83.specs.State.{pc, flags, pair_hl}
 use Rattle.opcodes.specs.Arithmetic.{holds}

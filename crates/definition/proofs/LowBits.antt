@@ -1,12 +1,13 @@
 -- "the low four bits of F are always 0": a step keeps them so, for every state and every kind of memory, and so does a run.
 -- By the course of the step: an instruction by its flags column, every other course leaves F as it was.
+use Rattle.std.proofs.Common.{if◌then◌else◌}
 use mathlib.Core.Path.{◌≡◌}
 use mathlib.Core.Bool.{Bool, true, false}
 use mathlib.Core.List.{List}
 use Prim.Native.Nat.{ℕ, ◌%◌}
 use Rattle.sm83.specs.declared.Cpu.{Cpu}
 use Rattle.sm83.specs.declared.HaltMode.TheVariants.{NotHalting}
-use Rattle.sm83.specs.Basics.{if◌then◌else◌, next}
+use Rattle.sm83.specs.Basics.{next}
 use Rattle.definition.specs.Bus.{Access, Fetch, Bus, Performed, run_on}
 use Rattle.sm83.specs.State.{pc, flags, set_pc, set_ime, set_latch, set_halt}
 use Rattle.opcodes.specs.Instruction.{decode}

@@ -1,4 +1,5 @@
 -- No instruction but an illegal opcode ends in a refusal, whatever memory answers.
+use Rattle.std.proofs.Common.{if◌then◌else◌}
 use mathlib.Core.Path.{sym, subst}
 use mathlib.Core.Bool.{Bool, true, false, not}
 use Prim.Native.Nat.{ℕ}
@@ -7,7 +8,7 @@ use Rattle.sm83.specs.declared.Cpu.{Cpu}
 use Rattle.outcome.specs.declared.Outcome.{Outcome}
 use Rattle.outcome.specs.declared.Outcome.TheVariants.{Normal, InfiniteLoop, Halting, RunningHDMA, Stopped, RunningInterrupt, Breakpoint, Refused}
 use Rattle.sm83.specs.declared.HaltMode.TheVariants.{HaltRunInterrupt, HaltNoRunInterrupt, HaltBug}
-use Rattle.sm83.specs.Basics.{if◌then◌else◌, word, next, offset}
+use Rattle.sm83.specs.Basics.{word, next, offset}
 use Rattle.definition.specs.Bus as bus
 use Rattle.definition.specs.Bus.{Ask, leaf, read, write, idle, write_and_take, Stack, Bus, run_on}
 use Rattle.outcome.specs.declared.interrupt.NextInterrupt.{NextInterrupt}

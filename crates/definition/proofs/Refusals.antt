@@ -1,4 +1,5 @@
 -- "When the core says no", 1 to 3, for every state and every kind of memory: when each refusal is answered, and what it leaves.
+use Rattle.std.proofs.Common.{if◌then◌else◌}
 use mathlib.Core.Path.{◌≡◌, refl, ap, subst, subst⁻¹, ◌∙◌}
 use mathlib.Core.Logic.{◌≢◌}
 use mathlib.Core.Bool.{Bool, true, false, not, ◌||◌}
@@ -14,7 +15,6 @@ use Rattle.sm83.specs.declared.HaltMode.TheVariants.{NotHalting, HaltRunInterrup
 use Rattle.outcome.specs.declared.Refusal.{Refusal}
 use Rattle.outcome.specs.declared.Refusal.TheVariants.{MemoryLength, LowBitsOfF, IllegalOpcode}
 use Rattle.outcome.specs.declared.Outcome.TheVariants.{Refused}
-use Rattle.sm83.specs.Basics.{if◌then◌else◌}
 use Rattle.definition.specs.Bus.{Access, Read, Fetch, Bus, Performed, logged, run_on, byte_at, pending, plain}
 use Rattle.outcome.specs.Interrupts.{is_pending}
 use Rattle.sm83.specs.State.{pc, flags, set_pc, set_ime, set_latch}

@@ -1,4 +1,5 @@
 -- No instruction takes more than six M-cycles, whatever bytes memory shows.
+use Rattle.std.proofs.Common.{if◌then◌else◌}
 use mathlib.Core.Path.{◌≡◌, refl, ap, sym, subst, ◌∙◌}
 use mathlib.Core.Bool.{Bool, true, false, not}
 use mathlib.Core.List.{[], ◌∷◌}
@@ -6,7 +7,6 @@ use Prim.Native.Nat.{ℕ, suc, ◌/◌, ◌%◌, ◌≤◌, ◌<◌}
 use native.Mathlib.Omega.{arith}
 use lib.Dec.{leb, ltb, ltb→lt, nltb→le, T}
 use lib.ListN.{get_or-eq_default}
-use Rattle.sm83.specs.Basics.{if◌then◌else◌}
 use Rattle.opcodes.specs.Instruction.{Reg8, rB, rC, rD, rE, rH, rL, [HL], rA, Instruction, does, ALU-A-r8, alu, reg8, quarter0, loads, quarter3, ILLEGAL, Prefixed, SHIFT-r8, BIT-u3-r8, RES-u3-r8, SET-u3-r8, decode, decode_cb}
 use Rattle.opcodes.specs.Published.{is_cb}
 use Rattle.opcodes.proofs.Choices.{by_cases, if_same}

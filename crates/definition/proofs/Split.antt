@@ -1,5 +1,6 @@
 -- A run equals its pieces: so many steps and then so many more are one run, unless the first piece stops early.
 -- By induction on the first budget.
+use Rattle.std.proofs.Common.{if◌then◌else◌}
 use mathlib.Core.Path.{◌≡◌, refl, ap, ap₂, sym, ◌∙◌}
 use mathlib.Core.Bool.{Bool, true, false, not}
 use Prim.Native.Nat.{ℕ, zero, suc, ◌+◌}
@@ -9,7 +10,6 @@ use Rattle.sm83.specs.declared.Cpu.{Cpu}
 use Rattle.outcome.specs.declared.Outcome.{Outcome}
 use Rattle.outcome.specs.declared.LastOutcome.{LastOutcome}
 use Rattle.outcome.specs.declared.LastOutcome.TheVariants.{NothingRun, Last}
-use Rattle.sm83.specs.Basics.{if◌then◌else◌}
 use Rattle.definition.specs.Bus.{Bus, Performed, mcycles}
 use Rattle.definition.specs.Step.{Ended, Admission, accepted, refused_as, admission, step_on}
 use Rattle.definition.specs.Run.{stops_run, stops_last, RunAnswer, then_rest, repeated, admitted_run, run_for}

@@ -1,4 +1,5 @@
 -- What each kind of step costs, and "A step costs 1 to 8 M-cycles": for every state, on every kind of memory.
+use Rattle.std.proofs.Common.{if◌then◌else◌}
 use mathlib.Core.Path.{◌≡◌, refl, ap, sym, subst, ◌∙◌}
 use mathlib.Core.Bool.{Bool, true, false, ◌&&◌}
 use Prim.Native.Nat.{ℕ, suc, ◌+◌, ◌≤◌}
@@ -7,7 +8,6 @@ use lib.Dec.{leb→le, T}
 use Rattle.sm83.specs.declared.Cpu.{Cpu}
 use Rattle.sm83.specs.declared.HaltMode.TheVariants.{NotHalting}
 use Rattle.outcome.specs.declared.Outcome.{Outcome}
-use Rattle.sm83.specs.Basics.{if◌then◌else◌}
 use Rattle.definition.specs.Bus.{Idle, Bus, Performed, run_on, logged, mcycles}
 use Rattle.outcome.specs.Interrupts.{is_pending}
 use Rattle.sm83.specs.State.{flags, set_halt}

@@ -1,4 +1,5 @@
 -- Where a run stops, from its being repeated steps: after the first outcome that stops it, or after its whole budget. A step that meets a refusal counts.
+use Rattle.std.proofs.Common.{if◌then◌else◌}
 use mathlib.Core.Path.{◌≡◌, refl, ap, sym, subst, ◌∙◌}
 use mathlib.Core.Bool.{Bool, true, false, not}
 use Prim.Native.Nat.{ℕ, zero, suc, ◌≤◌, ◌<◌}
@@ -10,7 +11,6 @@ use Rattle.outcome.specs.declared.Outcome.{Outcome}
 use Rattle.outcome.specs.declared.Outcome.TheVariants.{Refused}
 use Rattle.outcome.specs.declared.LastOutcome.{LastOutcome}
 use Rattle.outcome.specs.declared.LastOutcome.TheVariants.{NothingRun, Last}
-use Rattle.sm83.specs.Basics.{if◌then◌else◌}
 use Rattle.definition.specs.Bus.{Bus, mcycles}
 use Rattle.definition.specs.Step.{Admission, accepted, refused_as, admission, step_on}
 use Rattle.definition.specs.Run.{stops_run, RunAnswer, repeated, admitted_run, run_for, stops_last}

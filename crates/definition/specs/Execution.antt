@@ -1,12 +1,12 @@
 -- What each instruction asks of memory and leaves, one line an instruction. Meanings and M-cycles from the reference; the order of the accesses from 000.
-use Rattle.std.specs.Prelude.{Bool, true, false, ℕ, ◌+◌, ◌%◌, eqb}
+use Rattle.std.specs.Prelude.{Bool, true, false, ℕ, ◌+◌, ◌%◌, eqb, if◌then◌else◌}
 use Rattle.sm83.specs.declared.CpuRegisters.{CpuRegisters}
 use Rattle.sm83.specs.declared.Cpu.{Cpu}
 use Rattle.sm83.specs.declared.HaltMode.TheVariants.{HaltRunInterrupt, HaltNoRunInterrupt, HaltBug}
 use Rattle.outcome.specs.declared.Refusal.TheVariants.{IllegalOpcode}
 use Rattle.outcome.specs.declared.Outcome.{Outcome}
 use Rattle.outcome.specs.declared.Outcome.TheVariants.{Normal, InfiniteLoop, Breakpoint, Refused}
-use Rattle.sm83.specs.Basics.{if◌then◌else◌, cleared, raised, word, high_byte, low_byte, next, back, offset}
+use Rattle.sm83.specs.Basics.{cleared, raised, word, high_byte, low_byte, next, back, offset}
 use Rattle.definition.specs.Bus as bus
 use Rattle.definition.specs.Bus.{Kind, Fetch, Operand, Stack, Ask, read, write}
 use Rattle.outcome.specs.declared.interrupt.NextInterrupt.{NextInterrupt}

@@ -1,5 +1,5 @@
 -- One step, in the document's seven points, and what it answers on any kind of memory.
-use Rattle.std.specs.Prelude.{Bool, true, false, List, [], ◌∷◌, ℕ, ◌%◌, eqb, get_or}
+use Rattle.std.specs.Prelude.{Bool, true, false, List, [], ◌∷◌, ℕ, ◌%◌, eqb, get_or, if◌then◌else◌}
 use Rattle.sm83.specs.declared.Cpu.{Cpu}
 use Rattle.sm83.specs.declared.HaltMode.{HaltMode}
 use Rattle.sm83.specs.declared.HaltMode.TheVariants.{NotHalting, HaltRunInterrupt, HaltNoRunInterrupt, HaltBug}
@@ -11,7 +11,7 @@ use Rattle.outcome.specs.declared.Refusal.{Refusal}
 use Rattle.outcome.specs.declared.Refusal.TheVariants.{MemoryLength, LowBitsOfF}
 use Rattle.outcome.specs.declared.Outcome.{Outcome}
 use Rattle.outcome.specs.declared.Outcome.TheVariants.{Normal, Halting, RunningHDMA, Stopped, RunningInterrupt, Refused}
-use Rattle.sm83.specs.Basics.{if◌then◌else◌, high_byte, low_byte, next, back}
+use Rattle.sm83.specs.Basics.{high_byte, low_byte, next, back}
 use Rattle.definition.specs.Bus.{Fetch, Stack, Ask, leaf, write_and_take, Bus, Performed, run_on}
 use Rattle.sm83.specs.State.{pc, sp, flags, set_pc, set_sp, set_ime, set_latch, set_halt}
 use Rattle.opcodes.specs.Instruction.{decode}

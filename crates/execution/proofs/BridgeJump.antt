@@ -1,11 +1,11 @@
 -- What may go elsewhere: the row of 001 leads where the definition leads. A condition is the same test on F.
+use Rattle.std.proofs.Common.{if◌then◌else◌}
 use mathlib.Core.Path.{◌≡◌, refl, ap, ◌∙◌}
 use mathlib.Core.Bool.{Bool, true, false}
 use mathlib.Core.List.{List}
 use Prim.Native.Nat.{ℕ}
 use Rattle.sm83.specs.declared.Cpu.{Cpu}
 use Rattle.outcome.specs.declared.Outcome.{Outcome}
-use Rattle.sm83.specs.Basics.{if◌then◌else◌}
 use Rattle.definition.specs.Bus.{Ask}
 use Rattle.sm83.specs.State.{flags}
 use Rattle.opcodes.specs.Arithmetic.{holds}

@@ -1,11 +1,12 @@
 -- Bytes in the registers, and values that the code's `as u8` keeps: bytes, and a signed byte's low half.
+use Rattle.std.proofs.Common.{if◌then◌else◌}
 use mathlib.Core.Path.{◌≡◌}
 use mathlib.Core.Bool.{Bool, true, false}
 use Prim.Native.Nat.{ℕ, ◌+◌, ◌%◌, ◌<◌}
 use native.Mathlib.Omega.{arith}
 use lib.Dec.{ltb}
 use Rattle.sm83.specs.declared.CpuRegisters.{CpuRegisters}
-use Rattle.sm83.specs.Basics.{if◌then◌else◌, low_byte, signed}
+use Rattle.sm83.specs.Basics.{low_byte, signed}
 
 -- the registers that an r8 names, F aside
 pub record ByteRegisters (r : CpuRegisters) : Type 0 where

@@ -1,5 +1,5 @@
 -- What `exec_instruction` of 000 does, as accesses in order. This is the code's own shape, and no part of what a reader must believe: it is proved to lead where the definition leads.
-use Rattle.std.specs.Prelude.{Bool, true, false, ◌&&◌, ℕ, ◌+◌, ◌%◌, eqb}
+use Rattle.std.specs.Prelude.{Bool, true, false, ◌&&◌, ℕ, ◌+◌, ◌%◌, eqb, if◌then◌else◌}
 use Rattle.outcome.specs.declared.Refusal.TheVariants.{IllegalOpcode}
 use Rattle.outcome.specs.declared.Outcome.{Outcome}
 use Rattle.outcome.specs.declared.Outcome.TheVariants.{Normal, InfiniteLoop, Breakpoint, Refused}
@@ -8,7 +8,7 @@ use Rattle.instruction.specs.Holding.{check_cond, is_unconditional}
 use Rattle.instruction.specs.declared.Opcode.{Opcode}
 use Rattle.instruction.specs.declared.Opcode.TheVariants as op
 use Rattle.instruction.specs.declared.Instruction.{Instruction}
-use Rattle.sm83.specs.Basics.{if◌then◌else◌, cleared, raised, low_byte, high_byte, next, back, signed}
+use Rattle.sm83.specs.Basics.{cleared, raised, low_byte, high_byte, next, back, signed}
 use Rattle.definition.specs.Bus.{Operand}
 use Rattle.sm83.specs.State.{pair_af, pair_bc, pair_de, pair_hl, write_a, write_f, write_sp, put_bc, put_de, put_hl, write_bc, write_de, write_hl, write_af, set_f, sp, set_pc, set_ime, set_latch, set_stopped}
 use Rattle.opcodes.specs.Arithmetic.{Result, alu_op, acc_op, shift_op, increment, decrement, bit_test, word_sum_flags, offset_flags}

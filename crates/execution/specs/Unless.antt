@@ -1,6 +1,5 @@
 -- "RET cc": a return that is not sure idles before its condition is looked at.
-use Rattle.std.specs.Prelude.{Bool, List, ℕ}
-use Rattle.sm83.specs.Basics.{if◌then◌else◌}
+use Rattle.std.specs.Prelude.{Bool, List, ℕ, if◌then◌else◌}
 use Rattle.definition.specs.Bus.{idle}
 use Rattle.bus.specs.declared.Port.{Port}
 use Rattle.bus.specs.World.{Leaves}

@@ -1,7 +1,6 @@
 // Jumps, calls and returns.
-ghost use Rattle.std.specs.Prelude.{◌&&◌, ◌≡◌, eqb, length};
+ghost use Rattle.std.specs.Prelude.{◌&&◌, ◌≡◌, eqb, length, if◌then◌else◌};
 ghost use Rattle.outcome.specs.declared.Outcome.TheVariants.{Normal, InfiniteLoop};
-ghost use Rattle.sm83.specs.Basics.{if◌then◌else◌};
 ghost use Rattle.sm83.specs.State.{set_pc};
 ghost use Rattle.bus.specs.Leads.{Runs};
 ghost use Rattle.execution.specs.Mirror.{jp_made, jr_made, call_made, call_if_made, ret_made, ret_if_made, reti_made};

@@ -1,7 +1,6 @@
 -- What the call at power-on answers and leaves: 0, and the 24 bytes of a state at power-on; 255 and nothing changed for a block of another length or an unknown model.
-use Rattle.std.specs.Prelude.{Bool, true, ◌&&◌, List, [], ◌∷◌, ◌++◌, ℕ, eqb, leb, length, get_or}
+use Rattle.std.specs.Prelude.{Bool, true, ◌&&◌, List, [], ◌∷◌, ◌++◌, ℕ, eqb, leb, length, get_or, if◌then◌else◌}
 use Rattle.sm83.specs.declared.Cpu.{Cpu}
-use Rattle.sm83.specs.Basics.{if◌then◌else◌}
 use Rattle.sm83.specs.PowerOn.{cpu_dmg, cpu_cgb, cpu_cgb_dmg, cpu_zero}
 use Rattle.blocks.specs.Bytes.{filled}
 use Rattle.blocks.specs.StateBlock.{state_fields}

@@ -1,6 +1,5 @@
 -- What the screen answers and leaves: the document's number, the marks and the answer block. A malformed block is refused with nothing changed.
-use Rattle.std.specs.Prelude.{List, ℕ, eqb, length}
-use Rattle.sm83.specs.Basics.{if◌then◌else◌}
+use Rattle.std.specs.Prelude.{List, ℕ, eqb, length, if◌then◌else◌}
 use Rattle.routine.specs.Numbers.{verdict_number}
 use Rattle.routine.specs.Screen.{Screened, screen}
 use Rattle.blocks.specs.ScreenBlock.{verdict_bytes}

@@ -1,9 +1,9 @@
 -- The picture of a window: 0 not reached, 1 an instruction's start, 2 an operand byte, 3 a jump's start, 4 the refused byte.
-use Rattle.std.specs.Prelude.{true, false, ◌&&◌, List, [], ◌∷◌, ℕ, zero, suc, ◌-◌, eqb, ltb}
+use Rattle.std.specs.Prelude.{true, false, ◌&&◌, List, [], ◌∷◌, ℕ, zero, suc, ◌-◌, eqb, ltb, if◌then◌else◌}
 use Rattle.sm83.specs.declared.Addr.{Addr}
 use Rattle.routine.specs.declared.Verdict.{Verdict}
 use Rattle.routine.specs.declared.Verdict.TheVariants.{Passes, Refused, RefusedAt}
-use Rattle.sm83.specs.Basics.{if◌then◌else◌, next}
+use Rattle.sm83.specs.Basics.{next}
 use Rattle.definition.specs.Bus.{byte_at}
 use Rattle.sm83.specs.State.{addr}
 use Rattle.routine.specs.Numbers.{number_of}

@@ -1,6 +1,5 @@
 -- With which last address a window from a first one passes: the nearest above a given one, and the nearest below.
-use Rattle.std.specs.Prelude.{Bool, true, false, List, ℕ, zero, suc, ◌+◌, ◌-◌, min, replicate}
-use Rattle.sm83.specs.Basics.{if◌then◌else◌}
+use Rattle.std.specs.Prelude.{Bool, true, false, List, ℕ, zero, suc, ◌+◌, ◌-◌, min, replicate, if◌then◌else◌}
 use Rattle.sm83.specs.State.{addr}
 use Rattle.routine.specs.declared.Verdict.{Verdict}
 use Rattle.routine.specs.declared.Verdict.TheVariants.{Passes, Refused, RefusedAt}

@@ -1,6 +1,5 @@
 -- What stands at an address: nothing of the window, an instruction's start, or the inside of an instruction.
-use Rattle.std.specs.Prelude.{◌||◌, List, ℕ, zero, suc, ◌-◌, eqb, ltb}
-use Rattle.sm83.specs.Basics.{if◌then◌else◌}
+use Rattle.std.specs.Prelude.{◌||◌, List, ℕ, zero, suc, ◌-◌, eqb, ltb, if◌then◌else◌}
 use Rattle.sm83.specs.State.{addr}
 use Rattle.opcodes.specs.Instruction.{operands}
 use Rattle.routine.specs.Flow.{instruction_at}

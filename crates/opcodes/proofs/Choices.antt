@@ -1,7 +1,7 @@
 -- Small laws of a test and of a choice.
+use Rattle.std.proofs.Common.{if◌then◌else◌}
 use mathlib.Core.Path.{◌≡◌, refl, ap}
 use mathlib.Core.Bool.{Bool, true, false, ◌&&◌}
-use Rattle.sm83.specs.Basics.{if◌then◌else◌}
 
 pub by_cases : {A : Type 0} (t : Bool) → (t ≡ true → A) → (t ≡ false → A) → A
 by_cases true so not_so = so refl

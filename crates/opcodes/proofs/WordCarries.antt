@@ -1,10 +1,11 @@
 -- ADD HL and the signed sums on SP: H and C are what the named bits carry over, and the value is the sum, or the difference, modulo 65,536.
+use Rattle.std.proofs.Common.{if◌then◌else◌}
 use mathlib.Core.Path.{◌≡◌, refl, ap, sym, subst}
 use mathlib.Core.Bool.{Bool, true, false, not}
 use Prim.Native.Nat.{ℕ, ◌+◌, ◌-◌, ◌*◌, ◌%◌, ◌≤◌, ◌<◌}
 use native.Mathlib.Omega.{arith}
 use lib.Dec.{leb, ltb, T, ltb→lt, nltb→le}
-use Rattle.sm83.specs.Basics.{if◌then◌else◌, bit, offset}
+use Rattle.sm83.specs.Basics.{bit, offset}
 use Rattle.sm83.specs.Flags.{flag_z, flag_n, flag_h, flag_c}
 use Rattle.opcodes.specs.Arithmetic.{word_sum_flags, offset_flags}
 use Rattle.opcodes.proofs.Flags.{read_z, read_n}

@@ -1,7 +1,7 @@
 -- Arithmetic on bytes and words, with its flags, from the reference's columns of flags.
-use Rattle.std.specs.Prelude.{Bool, true, false, not, ◌||◌, ◌&&◌, ℕ, ◌+◌, ◌-◌, ◌*◌, ◌/◌, ◌%◌, eqb, leb, ltb}
+use Rattle.std.specs.Prelude.{Bool, true, false, not, ◌||◌, ◌&&◌, ℕ, ◌+◌, ◌-◌, ◌*◌, ◌/◌, ◌%◌, eqb, leb, ltb, if◌then◌else◌}
 use Rattle.std.specs.Int.Bits.{bit_and, bit_or, bit_xor}
-use Rattle.sm83.specs.Basics.{if◌then◌else◌, bit, bit_at}
+use Rattle.sm83.specs.Basics.{bit, bit_at}
 use Rattle.sm83.specs.Flags.{flag_byte, flag_z, flag_n, flag_h, flag_c}
 use Rattle.opcodes.specs.Instruction.{Cond, c_nz, c_z, c_nc, c_c, Alu, ADD, ADC, SUB, SBC, AND, XOR, OR, CP, Acc, RLCA, RRCA, RLA, RRA, DAA, CPL, SCF, CCF, Shift, RLC, RRC, RL, RR, SLA, SRA, SWAP, SRL}
 

@@ -1,7 +1,6 @@
 -- The published columns of the reference, gbz80(7): bytes, M-cycles and flags of all 512 opcodes, written by hand from it.
 -- Row: the opcode's high digit. Column: its low digit. The eleven illegal opcodes stand as one byte, one M-cycle, flags unchanged.
-use Rattle.std.specs.Prelude.{Bool, true, false, List, [], ◌∷◌, ℕ, ◌/◌, ◌%◌, eqb, get_or}
-use Rattle.sm83.specs.Basics.{if◌then◌else◌}
+use Rattle.std.specs.Prelude.{Bool, true, false, List, [], ◌∷◌, ℕ, ◌/◌, ◌%◌, eqb, get_or, if◌then◌else◌}
 
 -- The flags column in its own words, in the order Z N H C: a letter is computed, a digit is the flag's value, a dash leaves it. `keep` leaves all four.
 pub data FlagColumn : Type 0 where

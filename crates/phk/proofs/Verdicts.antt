@@ -1,7 +1,6 @@
 -- The verdict of a window depends on how many marks are lent, and not on what they are; of a window that is the wrong way round not even on that.
-use Rattle.std.proofs.Common.{◌≡◌, ℕ, suc, ◌+◌, ◌-◌, ◌<◌, min, Bool, true, false, not, eqb, ltb, List, length, replicate, sym, refl, ap, ◌∙◌, arith, ltb-false}
+use Rattle.std.proofs.Common.{◌≡◌, ℕ, suc, ◌+◌, ◌-◌, ◌<◌, min, Bool, true, false, not, eqb, ltb, List, length, replicate, sym, refl, ap, ◌∙◌, arith, ltb-false, if◌then◌else◌}
 use lib.ListN.{length-replicate}
-use Rattle.sm83.specs.Basics.{if◌then◌else◌}
 use Rattle.routine.specs.declared.ScreenRefusal.TheVariants.{MemoryLength, WindowReversed, WindowTooLong, MarksLength}
 use Rattle.routine.specs.declared.Verdict.{Verdict}
 use Rattle.routine.specs.Screen.{Screened, untouched, longest_window, verdict, screen}

@@ -1,6 +1,5 @@
 -- What a file is as an image: the whole memory, a part of it, or none.
-use Rattle.std.specs.Prelude.{ℕ, Bool, true, false, nat_lt}
-use Rattle.sm83.specs.Basics.{if◌then◌else◌}
+use Rattle.std.specs.Prelude.{ℕ, Bool, true, false, nat_lt, if◌then◌else◌}
 use Rattle.phk.specs.declared.files.Image.{Image}
 use Rattle.phk.specs.declared.files.Image.TheVariants.{Unreadable, TooLong, TooShort, Part, Whole}
 

@@ -1,6 +1,5 @@
 -- Where the last steps of a run were: the PC before each, by how many may follow it.
-use Rattle.std.specs.Prelude.{ℕ, List, length, nat_lt, slice_set}
-use Rattle.sm83.specs.Basics.{if◌then◌else◌}
+use Rattle.std.specs.Prelude.{ℕ, List, length, nat_lt, slice_set, if◌then◌else◌}
 use Rattle.sm83.specs.State.{pc}
 use Rattle.phk.specs.declared.far.Far.{Far}
 

@@ -1,6 +1,5 @@
 -- What stands at the name that --out gives, and where memory may be written: to a new name, or to a file that the caller may write and that is not the image.
-use Rattle.std.specs.Prelude.{ℕ, ◌/◌, ◌%◌, Bool, true, false, not, ◌&&◌, ◌==◌, nat_eq}
-use Rattle.sm83.specs.Basics.{if◌then◌else◌}
+use Rattle.std.specs.Prelude.{ℕ, ◌/◌, ◌%◌, Bool, true, false, not, ◌&&◌, ◌==◌, nat_eq, if◌then◌else◌}
 use Rattle.phk.specs.declared.look.Looked.{Looked}
 use Rattle.phk.specs.declared.saving.Target.{Target}
 use Rattle.phk.specs.declared.saving.Target.TheVariants.{Nothing, Link, Folder, NoFile, TheImage, ReadOnly, NotYours, File}

@@ -1,6 +1,5 @@
 -- Which bytes of memory an image has, and when a run goes step by step.
-use Rattle.std.specs.Prelude.{ℕ, ◌+◌, Bool, false, not, ◌&&◌, ◌||◌, nat_le}
-use Rattle.sm83.specs.Basics.{if◌then◌else◌}
+use Rattle.std.specs.Prelude.{ℕ, ◌+◌, Bool, false, not, ◌&&◌, ◌||◌, nat_le, if◌then◌else◌}
 use Rattle.map.specs.declared.passing.Passing.{Passing}
 use Rattle.map.specs.declared.passing.Passing.TheVariants.{Never, UpTo}
 use Rattle.phk.specs.Window.{behind}

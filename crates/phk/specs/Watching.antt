@@ -1,7 +1,6 @@
 -- What a run within a window comes to: which reasons end the watch, which run of the definition it was, and its status.
-use Rattle.std.specs.Prelude.{◌≡◌, ℕ, ◌≤◌, Bool, true, false, not, ◌||◌, List, nat_eq}
+use Rattle.std.specs.Prelude.{◌≡◌, ℕ, ◌≤◌, Bool, true, false, not, ◌||◌, List, nat_eq, if◌then◌else◌}
 use Rattle.sm83.specs.declared.Cpu.{Cpu}
-use Rattle.sm83.specs.Basics.{if◌then◌else◌}
 use Rattle.definition.specs.Bus.{plain}
 use Rattle.definition.specs.Run.{run_for}
 use Rattle.watch.specs.declared.reasons.Why.{Why}

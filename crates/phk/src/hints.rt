@@ -1,7 +1,6 @@
 // What a refusal of the screen comes to here: the forbidden instruction by its name, where the jump goes and what stands there, and with
 // which last address the window would pass.
-ghost use Rattle.std.specs.Prelude.{◌≡◌};
-ghost use Rattle.sm83.specs.Basics.{if◌then◌else◌};
+ghost use Rattle.std.specs.Prelude.{◌≡◌, if◌then◌else◌};
 ghost use Rattle.map.specs.declared.passing.Passing.TheVariants.{Never, UpTo};
 ghost use Rattle.phk.specs.View.{held_alone};
 

@@ -1,4 +1,5 @@
 -- What lies between the ends of a run can be seen by calls of `run`: with a budget of no more steps than a call did, from the same state and memory, another call ends at the state before that step.
+use Rattle.std.proofs.Common.{if◌then◌else◌}
 use mathlib.Core.Path.{◌≡◌, refl, ap, sym, subst, subst⁻¹, ◌∙◌}
 use mathlib.Core.Bool.{Bool, true, false}
 use mathlib.Core.List.{List}
@@ -8,7 +9,6 @@ use lib.Dec.{T, leb}
 use borrow.Author.Tests.{leb-true, leb-false}
 use Rattle.sm83.specs.declared.Cpu.{Cpu}
 use Rattle.outcome.specs.declared.LastOutcome.TheVariants.{NothingRun}
-use Rattle.sm83.specs.Basics.{if◌then◌else◌}
 use Rattle.definition.specs.Bus.{Bus, plain}
 use Rattle.definition.specs.Step.{Admission, accepted, refused_as, admission}
 use Rattle.definition.specs.Run.{stops_last, RunAnswer, repeated, run_for}

@@ -1,11 +1,12 @@
 -- The parts of an instruction, from registers in range: they ask only for addresses below 65,536, write only bytes, and leave registers in range, whatever bytes memory answers.
+use Rattle.std.proofs.Common.{if◌then◌else◌}
 use mathlib.Core.Bool.{Bool, true, false}
 use Prim.Native.Nat.{ℕ, ◌*◌, ◌/◌, ◌%◌, ◌<◌}
 use native.Mathlib.Omega.{arith}
 use Rattle.sm83.specs.declared.CpuRegisters.{CpuRegisters}
 use Rattle.sm83.specs.declared.Cpu.{Cpu}
 use Rattle.outcome.specs.declared.interrupt.NextInterrupt.{NextInterrupt}
-use Rattle.sm83.specs.Basics.{if◌then◌else◌, word, high_byte, low_byte, next, back}
+use Rattle.sm83.specs.Basics.{word, high_byte, low_byte, next, back}
 use Rattle.definition.specs.Bus as bus
 use Rattle.definition.specs.Bus.{Kind, Operand, Stack, Ask, leaf, read, write, write_and_take}
 use Rattle.sm83.specs.State.{pair_af, pair_bc, pair_de, pair_hl, write_a, write_f, write_sp, write_pc, put_bc, put_de, put_hl, write_bc, write_de, write_hl, write_af, on_registers}

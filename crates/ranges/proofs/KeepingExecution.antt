@@ -1,4 +1,5 @@
 -- Each instruction keeps the registers in range and asks and writes as it may. Each line follows its instruction's line in the definition.
+use Rattle.std.proofs.Common.{if◌then◌else◌}
 use mathlib.Core.Bool.{Bool, true, false}
 use Prim.Native.Nat.{ℕ, ◌+◌, ◌%◌, ◌<◌}
 use native.Mathlib.Omega.{arith}
@@ -7,7 +8,7 @@ use Rattle.sm83.specs.declared.HaltMode.TheVariants.{HaltRunInterrupt, HaltNoRun
 use Rattle.outcome.specs.declared.Outcome.{Outcome}
 use Rattle.outcome.specs.declared.Refusal.TheVariants.{IllegalOpcode}
 use Rattle.outcome.specs.declared.Outcome.TheVariants.{Normal, InfiniteLoop, Halting, RunningHDMA, Stopped, RunningInterrupt, Breakpoint, Refused}
-use Rattle.sm83.specs.Basics.{if◌then◌else◌, bit_at, high_byte, low_byte, next, back, offset, cleared, raised}
+use Rattle.sm83.specs.Basics.{bit_at, high_byte, low_byte, next, back, offset, cleared, raised}
 use Rattle.definition.specs.Bus.{Fetch, Operand}
 use Rattle.outcome.specs.Interrupts.{is_pending}
 use Rattle.sm83.specs.State.{set_ime, set_latch, set_halt, set_stopped}

@@ -1,4 +1,5 @@
 -- The step keeps the registers in range and asks and writes as it may. Each line follows a point of the step in the definition.
+use Rattle.std.proofs.Common.{if◌then◌else◌}
 use mathlib.Core.Bool.{Bool, true, false}
 use Prim.Native.Nat.{ℕ}
 use native.Mathlib.Omega.{arith}
@@ -6,7 +7,7 @@ use lib.Dec.{T}
 use Rattle.sm83.specs.declared.Cpu.{Cpu}
 use Rattle.sm83.specs.declared.HaltMode.TheVariants.{NotHalting}
 use Rattle.outcome.specs.declared.Outcome.TheVariants.{Halting, RunningHDMA, Stopped}
-use Rattle.sm83.specs.Basics.{if◌then◌else◌, high_byte, low_byte, next, back}
+use Rattle.sm83.specs.Basics.{high_byte, low_byte, next, back}
 use Rattle.definition.specs.Bus.{Fetch, Stack}
 use Rattle.outcome.specs.declared.interrupt.InterruptType.TheVariants.{Vblank, LcdStat, Timer, Serial, Joypad}
 use Rattle.outcome.specs.declared.interrupt.NextInterrupt.{NextInterrupt}

@@ -1,4 +1,5 @@
 -- Registers in their ranges with F's low bits 0, and the arithmetic that keeps them so.
+use Rattle.std.proofs.Common.{if◌then◌else◌}
 use mathlib.Core.Path.{◌≡◌}
 use mathlib.Core.Bool.{Bool, true, false, not, ◌||◌, ◌&&◌}
 use Prim.Native.Nat.{ℕ, zero, suc, ◌+◌, ◌-◌, ◌*◌, ◌/◌, ◌%◌, ◌≤◌, ◌<◌}
@@ -6,7 +7,7 @@ use native.Mathlib.Omega.{arith}
 use lib.Dec.{eqb, leb, ltb}
 use lib.Bits.{bit_and, bit_or, bit_xor, and_le_l, or_lt, xor_lt}
 use Rattle.sm83.specs.declared.CpuRegisters.{CpuRegisters}
-use Rattle.sm83.specs.Basics.{if◌then◌else◌, bit, cleared, raised}
+use Rattle.sm83.specs.Basics.{bit, cleared, raised}
 use Rattle.sm83.specs.State.{write_a, write_f, write_sp, write_pc, put_bc, put_de, put_hl}
 use Rattle.sm83.specs.Flags.{flag_byte, flag_z, flag_n, flag_h, flag_c}
 use Rattle.opcodes.specs.Arithmetic.{carry, is_zero, Result, sum, difference, logical, shifted, without_z, alu_op, acc_op, shift_op, daa, increment, decrement}

@@ -1,5 +1,6 @@
 -- A step refuses for the reasons of the table alone: number 1 only if the length is wrong, 2 only if a low bit of F is set, 3 only if the byte fetched is illegal.
 -- By the course of the step: every other course ends otherwise, and every other instruction too.
+use Rattle.std.proofs.Common.{if◌then◌else◌}
 use mathlib.Core.Path.{◌≡◌, refl, ap, sym, subst, ◌∙◌}
 use mathlib.Core.Logic.{◌≢◌}
 use mathlib.Core.Bool.{Bool, true, false, not}
@@ -13,7 +14,7 @@ use Rattle.outcome.specs.declared.Refusal.{Refusal}
 use Rattle.outcome.specs.declared.Refusal.TheVariants.{MemoryLength, LowBitsOfF}
 use Rattle.outcome.specs.declared.Outcome.{Outcome}
 use Rattle.outcome.specs.declared.Outcome.TheVariants.{Normal, InfiniteLoop, Halting, RunningHDMA, Stopped, RunningInterrupt, Breakpoint, Refused}
-use Rattle.sm83.specs.Basics.{if◌then◌else◌, high_byte, back}
+use Rattle.sm83.specs.Basics.{high_byte, back}
 use Rattle.definition.specs.Bus.{Access, Fetch, Stack, Bus, Performed, run_on, byte_at, plain}
 use Rattle.outcome.specs.declared.interrupt.NextInterrupt.{NextInterrupt}
 use Rattle.outcome.specs.declared.interrupt.NextInterrupt.TheVariants.{NonePending, Pending}

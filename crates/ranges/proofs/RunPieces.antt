@@ -1,9 +1,9 @@
 -- A run equals its pieces, from every state and on every memory whose length no access changes: a state that is accepted is accepted again after a run, its F having low bits 0 and its memory its length. The rest is the split law of repeated steps.
+use Rattle.std.proofs.Common.{if◌then◌else◌}
 use mathlib.Core.Path.{◌≡◌, refl, ap, ◌∙◌}
 use mathlib.Core.List.{List, [], ◌∷◌}
 use Prim.Native.Nat.{ℕ, ◌+◌}
 use Rattle.sm83.specs.declared.Cpu.{Cpu}
-use Rattle.sm83.specs.Basics.{if◌then◌else◌}
 use Rattle.definition.specs.Bus.{Bus, plain}
 use Rattle.definition.specs.Step.{accepted, admission}
 use Rattle.definition.specs.Run.{stops_last, RunAnswer, run_for}

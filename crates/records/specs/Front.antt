@@ -1,6 +1,5 @@
 -- The record at the front of a sample.
-use Rattle.std.specs.Prelude.{◌≡◌, ℕ, ◌+◌, ◌≤◌, leb, List, length, drop, nat_le}
-use Rattle.sm83.specs.Basics.{if◌then◌else◌}
+use Rattle.std.specs.Prelude.{◌≡◌, ℕ, ◌+◌, ◌≤◌, leb, List, length, drop, nat_le, if◌then◌else◌}
 use Rattle.blocks.specs.Bytes.{word_at}
 
 -- the length of the record at the front, as its first two bytes say; 0 if no whole record stands there

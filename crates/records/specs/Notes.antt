@@ -1,6 +1,6 @@
 -- What a record adds to the counts of what a sample covers.
-use Rattle.std.specs.Prelude.{ℕ, ◌+◌, ◌%◌, ◌^◌, Bool, not, ◌&&◌, ◌||◌, List, length, ◌==◌, nat_eq, nat_le, nat_lt, slice_index, slice_set}
-use Rattle.sm83.specs.Basics.{if◌then◌else◌, next}
+use Rattle.std.specs.Prelude.{ℕ, ◌+◌, ◌%◌, ◌^◌, Bool, not, ◌&&◌, ◌||◌, List, length, ◌==◌, nat_eq, nat_le, nat_lt, slice_index, slice_set, if◌then◌else◌}
+use Rattle.sm83.specs.Basics.{next}
 use Rattle.definition.specs.Bus.{byte_at, pending}
 use Rattle.outcome.specs.Interrupts.{is_pending}
 use Rattle.blocks.specs.Bytes.{word_at}

@@ -1,6 +1,5 @@
 -- What the core answers to a record of a step or a run, what the record says of it, and that the two are the same.
-use Rattle.std.specs.Prelude.{ℕ, Bool, ◌&&◌, List, replicate, ◌==◌}
-use Rattle.sm83.specs.Basics.{if◌then◌else◌}
+use Rattle.std.specs.Prelude.{ℕ, Bool, ◌&&◌, List, replicate, ◌==◌, if◌then◌else◌}
 use Rattle.blocks.specs.Bytes.{word_at}
 use Rattle.library.specs.Left.{Left, left, run_blocks}
 use Rattle.records.specs.Bytes.{part, patched}

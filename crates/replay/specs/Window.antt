@@ -1,6 +1,5 @@
 -- What the screen answers to a record of a window, what the record says of it, and that the two are the same.
-use Rattle.std.specs.Prelude.{◌≡◌, ℕ, ◌+◌, ◌*◌, ◌≤◌, Bool, false, ◌&&◌, List, length, replicate, ◌==◌}
-use Rattle.sm83.specs.Basics.{if◌then◌else◌}
+use Rattle.std.specs.Prelude.{◌≡◌, ℕ, ◌+◌, ◌*◌, ◌≤◌, Bool, false, ◌&&◌, List, length, replicate, ◌==◌, if◌then◌else◌}
 use Rattle.definition.specs.Bus.{byte_at}
 use Rattle.blocks.specs.Bytes.{word_at}
 use Rattle.library.specs.Screened.{LeftByScreen, left_by_screen, screen_blocks}

@@ -69,7 +69,7 @@ module _ {W : Type 0} {b : Bus W} {screened : List ℕ} {first n : ℕ} (passed 
   pending_after_lem : T (spares_pending l (step_on b s m).accesses) → MayBePending b screened (step_on b s m).value.cpu (step_on b s m).memory (pending_after (instruction_from b s m) s l)
   pending_after_lem spared =
       subst⁻¹ (λ (x : ℕ). MayBePending b screened (step_on b s m).value.cpu (step_on b s m).memory (pending_after (decode x) s l)) here
-      (still_none b screened (instruction_at screened (pc s)) s _ m _ l (passed.rules.allowed (pc s) c.at_start) c.calls_pending)
+      (still_none b screened (instruction_at screened (pc s)) s (step_on b s m).value.cpu m (step_on b s m).memory l (passed.rules.allowed (pc s) c.at_start) c.calls_pending)
 
   -- "until a return is taken or a step writes into the routine"
   pub step_stays : T (returns_home b s m l) → T (spares first n (step_on b s m).accesses) → T (spares_pending l (step_on b s m).accesses) → Covered b screened first n (step_on b s m).value.cpu (step_on b s m).memory (pending_after (instruction_from b s m) s l)

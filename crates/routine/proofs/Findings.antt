@@ -1,4 +1,5 @@
 -- What each refusal that names an address says: what is wrong at that start, that no start before it is wrong so, and that no earlier test finds anything.
+use Rattle.std.proofs.Common.{if◌then◌else◌}
 use mathlib.Core.Path.{◌≡◌}
 use mathlib.Core.Bool.{not}
 use mathlib.Core.List.{List, [], ◌∷◌}
@@ -10,7 +11,6 @@ use Rattle.routine.specs.declared.ScreenRefusal.TheVariants.{ForbiddenOpcode, Pa
 use Rattle.routine.specs.declared.Verdict.{Verdict}
 use Rattle.routine.specs.declared.Verdict.TheVariants.{Passes, Refused, RefusedAt}
 use Rattle.routine.specs.Numbers.{number_of}
-use Rattle.sm83.specs.Basics.{if◌then◌else◌}
 use Rattle.routine.specs.Flow.{class_at, past, is_forbidden, ends_routine}
 use Rattle.routine.specs.Rules.{Start, JumpsTo}
 

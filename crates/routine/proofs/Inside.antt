@@ -1,4 +1,5 @@
 -- One step from a start of a window that keeps the rules, as a tree: it is fine and leaves a calm state, with PC at a start unless it takes a return.
+use Rattle.std.proofs.Common.{if◌then◌else◌}
 use mathlib.Core.Path.{◌≡◌, ap, subst⁻¹, ◌∙◌}
 use mathlib.Core.Bool.{Bool, true, false, not}
 use mathlib.Core.List.{List}
@@ -9,7 +10,7 @@ use lib.Dec.{T, T_not}
 use Rattle.sm83.specs.declared.Cpu.{Cpu}
 use Rattle.sm83.specs.declared.HaltMode.TheVariants.{NotHalting}
 use Rattle.outcome.specs.declared.Outcome.{Outcome}
-use Rattle.sm83.specs.Basics.{if◌then◌else◌, next}
+use Rattle.sm83.specs.Basics.{next}
 use Rattle.definition.specs.Bus.{Fetch, Ask, read, byte_at}
 use Rattle.sm83.specs.State.{pc, flags, set_pc, set_ime, set_latch, set_halt}
 use Rattle.opcodes.specs.Instruction.{decode, operands}

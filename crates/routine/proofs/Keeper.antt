@@ -1,14 +1,13 @@
 -- A kind of memory that keeps a window, its bytes changing by writes into it only, and what it makes of a tree that takes no interrupt.
 use mathlib.Core.Path.{◌≡◌, refl, ◌∙◌}
 use mathlib.Core.Bool.{Bool, true, false, not, ◌&&◌}
-use mathlib.Core.List.{List, [], ◌∷◌}
 use mathlib.Core.Logic.{◌≢◌}
 use Prim.Native.Nat.{ℕ, ◌+◌, ◌≤◌, ◌<◌}
 use native.Mathlib.Omega.{arith}
 use lib.Dec.{leb, ltb, T, T_not, le→leb, lt→ltb}
 use lib.ListN.{length-set}
 use lib.Seq.{get_or-set_other}
-use Rattle.definition.specs.Bus.{Kind, Ask, leaf, read, write, idle, peek, write_and_take, Access, Read, Write, Idle, WriteAndTake, Bus, Performed, run_on, plain}
+use Rattle.definition.specs.Bus.{Kind, Ask, leaf, read, write, idle, peek, write_and_take, Bus, Performed, run_on, plain}
 use Rattle.definition.specs.Step.{Ended}
 use Rattle.routine.specs.Trace.{takes_none, in_window, spares, SameWindow}
 use Rattle.routine.proofs.Onward.{anything, Ends}

@@ -1,4 +1,5 @@
 -- Where PC goes from each allowed instruction, and that it leaves a calm state, whatever memory answers but for the instruction's own bytes.
+use Rattle.std.proofs.Common.{if◌then◌else◌}
 use mathlib.Core.Path.{◌≡◌, refl, ap, ap₂, sym, ◌∙◌}
 use mathlib.Core.Bool.{Bool, true, false, not}
 use mathlib.Core.Logic.{◌⊎◌, inl, inr}
@@ -8,7 +9,7 @@ use lib.Dec.{eqb, T}
 use Rattle.sm83.specs.declared.Cpu.{Cpu}
 use Rattle.outcome.specs.declared.Outcome.{Outcome}
 use Rattle.outcome.specs.declared.Outcome.TheVariants.{Normal, InfiniteLoop}
-use Rattle.sm83.specs.Basics.{if◌then◌else◌, word, next, offset, signed}
+use Rattle.sm83.specs.Basics.{word, next, offset, signed}
 use Rattle.definition.specs.Bus.{Ask, leaf, read, write, idle, peek, write_and_take}
 use Rattle.sm83.specs.State.{pc, flags, set_pc}
 use Rattle.opcodes.specs.Arithmetic.{holds}

@@ -1,14 +1,13 @@
 -- What each instruction that goes on to the next one leaves, whatever memory answers: a calm state whose PC is past its bytes.
 use mathlib.Core.Path.{◌≡◌, refl}
 use mathlib.Core.Bool.{false}
-use Prim.Native.Nat.{ℕ, zero, suc, ◌%◌}
+use Prim.Native.Nat.{ℕ, ◌%◌}
 use native.Mathlib.Omega.{arith}
 use lib.Dec.{T}
 use Rattle.sm83.specs.declared.Cpu.{Cpu}
 use Rattle.sm83.specs.declared.HaltMode.TheVariants.{NotHalting}
 use Rattle.outcome.specs.declared.interrupt.NextInterrupt.{NextInterrupt}
 use Rattle.outcome.specs.declared.Outcome.TheVariants.{Normal}
-use Rattle.sm83.specs.Basics.{next}
 use Rattle.definition.specs.Bus.{Ask, leaf, read, write, idle, peek, write_and_take}
 use Rattle.sm83.specs.State.{pc, sp, flags, set_pc, set_sp, set_f, on_registers}
 use Rattle.opcodes.specs.Instruction.{Reg8, rB, rC, rD, rE, rH, rL, [HL], rA, Reg16, rBC, rDE, rHL, rSP, Stacked, pBC, pDE, pHL, pAF, Pointer, [BC], [DE], [HL+], [HL-]}

@@ -1,6 +1,7 @@
 -- The opcode bytes of each class, as lists: forbidden, ending a routine, jumping, returning, calling; and the length of each. One computed test over all 256 bytes for each.
+use Rattle.std.proofs.Common.{if◌then◌else◌}
 use mathlib.Core.Path.{◌≡◌, refl, subst⁻¹}
-use mathlib.Core.Bool.{Bool, true, false, not, ◌||◌}
+use mathlib.Core.Bool.{Bool, true, false, not}
 use mathlib.Core.Logic.{◌⊎◌, inl, inr, ◌↔◌}
 use mathlib.Core.List.{List, [], ◌∷◌}
 use Prim.Native.Nat.{ℕ, zero, suc, ◌<◌}
@@ -9,7 +10,7 @@ use native.Mathlib.Omega.{arith}
 use lib.Dec.{T, not_T, eqb}
 use lib.Ieee.Bits.{is_true}
 use mir.Facts.{T_not-not}
-use Rattle.sm83.specs.Basics.{if◌then◌else◌, next}
+use Rattle.sm83.specs.Basics.{next}
 use Rattle.definition.specs.Bus.{byte_at}
 use Rattle.opcodes.specs.Arithmetic.{holds}
 use Rattle.opcodes.specs.Instruction.{c_nz, c_z, c_nc, c_c, decode, length_of}

@@ -1,10 +1,11 @@
 -- A call that is made leaves what its pending call says: it pushes the address to return to, high byte first, and SP is where the low byte lies. By computing the instruction.
+use Rattle.std.proofs.Common.{if◌then◌else◌}
 use mathlib.Core.Path.{◌≡◌, refl}
 use mathlib.Core.Bool.{Bool, true, false}
 use lib.Dec.{T}
 use Rattle.sm83.specs.declared.Cpu.{Cpu}
 use Rattle.outcome.specs.declared.Outcome.TheVariants.{Normal}
-use Rattle.sm83.specs.Basics.{if◌then◌else◌, word, high_byte, low_byte, next, back}
+use Rattle.sm83.specs.Basics.{word, high_byte, low_byte, next, back}
 use Rattle.definition.specs.Bus.{Operand, Stack, Ask, read, write, idle}
 use Rattle.sm83.specs.State.{pc, sp, flags, set_pc, set_sp}
 use Rattle.opcodes.specs.Arithmetic.{holds}

@@ -1,4 +1,5 @@
 -- A scan shows the lowest start that fails its test, or that every start passes it; and so each test after the walk, in their order.
+use Rattle.std.proofs.Common.{if◌then◌else◌}
 use mathlib.Core.Path.{◌≡◌, refl, subst, subst⁻¹}
 use mathlib.Core.Bool.{Bool, true, false, not, ◌&&◌}
 use mathlib.Core.Logic.{◌⊎◌, inl, inr, ◌↔◌}
@@ -9,9 +10,7 @@ use native.Mathlib.Omega.{arith}
 use lib.Dec.{T, T_not, not_T, eqb, eqb→eq}
 use borrow.Author.Tests.{eq-eqb}
 use mir.Facts.{and_yes, yes_and, T_not-not}
-use Rattle.routine.specs.declared.ScreenRefusal.{ScreenRefusal}
 use Rattle.routine.specs.declared.Verdict.{Verdict}
-use Rattle.sm83.specs.Basics.{if◌then◌else◌}
 use Rattle.routine.specs.declared.Test.{Test}
 use Rattle.routine.specs.declared.Test.TheVariants.{Ends, Lands}
 use Rattle.routine.specs.Flow.{class_at, flow_at, past, ends_routine}

@@ -1,4 +1,5 @@
 -- The walk shows 7 or 8 at the lowest start where one of them applies, or that all starts are sound.
+use Rattle.std.proofs.Common.{if◌then◌else◌}
 use mathlib.Core.Path.{◌≡◌, refl, subst, subst⁻¹}
 use mathlib.Core.Bool.{Bool, true, false, not}
 use mathlib.Core.Logic.{◌⊎◌, inl, inr}
@@ -8,7 +9,6 @@ use native.Mathlib.Omega.{arith}
 use lib.Dec.{T}
 use Rattle.routine.specs.declared.ScreenRefusal.TheVariants.{ForbiddenOpcode, PastTheEnd}
 use Rattle.routine.specs.declared.Verdict.{Verdict}
-use Rattle.sm83.specs.Basics.{if◌then◌else◌}
 use Rattle.opcodes.specs.Instruction.{operands}
 use Rattle.routine.specs.Flow.{class_at, instruction_at, past, is_forbidden}
 use Rattle.routine.specs.Rules.{Start, at_first, after}

@@ -1,5 +1,5 @@
 -- The screen's rules on a window's bytes, each in the document's words. The window holds the addresses from first up to, not including, end.
-use Rattle.std.specs.Prelude.{◌≡◌, Bool, true, false, not, ◌⊎◌, List, ℕ, ◌≤◌, ◌<◌, T}
+use Rattle.std.specs.Prelude.{◌≡◌, not, ◌⊎◌, List, ℕ, ◌≤◌, ◌<◌, T}
 use Rattle.routine.specs.Flow.{class_at, GoesTo, GoesToOrNext, flow_at, past, is_forbidden, ends_routine}
 
 -- "It walks from the first address by instruction length": the starts

@@ -1,5 +1,5 @@
 -- What a row says of a step's end, or of a window: one number looked at, and what it is.
-use Rattle.std.specs.Prelude.{Bool, List, [], ◌∷◌, map, ℕ, zero, suc, ◌+◌, set, replicate}
+use Rattle.std.specs.Prelude.{List, [], ◌∷◌, map, ℕ, zero, suc, set, replicate}
 use Rattle.sm83.specs.declared.Cpu.{Cpu}
 use Rattle.sm83.specs.Basics.{bit}
 use Rattle.definition.specs.Bus.{Performed, plain, byte_at, mcycles}

@@ -1,5 +1,5 @@
 -- The starred rows of "Rows to be worked", each value as the document prints it.
-use Rattle.std.specs.Prelude.{Bool, true, false, List, [], ◌∷◌, ℕ}
+use Rattle.std.specs.Prelude.{true, List, [], ◌∷◌, ℕ}
 use Rattle.sm83.specs.declared.Cpu.{Cpu}
 use Rattle.sm83.specs.declared.HaltMode.TheVariants.{HaltBug}
 use Rattle.sm83.specs.State.{on_registers, write_a, write_af, set_sp, set_pc, set_ime, set_halt}

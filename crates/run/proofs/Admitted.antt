@@ -1,4 +1,5 @@
 -- "Step and run test 1, then 2": what the two tests come to; and a step is a run with a budget of one.
+use Rattle.std.proofs.Common.{if◌then◌else◌}
 use mathlib.Core.Path.{◌≡◌, refl, ap, sym}
 use mathlib.Core.Bool.{Bool, true, false}
 use mathlib.Core.List.{List}
@@ -9,7 +10,6 @@ use lib.ListN.{length}
 use Rattle.sm83.specs.declared.Cpu.{Cpu}
 use Rattle.outcome.specs.declared.Refusal.TheVariants.{MemoryLength, LowBitsOfF}
 use Rattle.outcome.specs.declared.LastOutcome.TheVariants.{NothingRun, Last}
-use Rattle.sm83.specs.Basics.{if◌then◌else◌}
 use Rattle.definition.specs.Bus.{Bus, Performed, mcycles}
 use Rattle.sm83.specs.State.{flags}
 use Rattle.definition.specs.Step.{Ended, Admission, accepted, refused_as, admission, step_on}

@@ -1,11 +1,5 @@
 -- Small words that every other page uses: a choice, bytes and words, sums that wrap.
-use Rattle.std.specs.Prelude.{ℕ, ◌+◌, ◌-◌, ◌*◌, ◌/◌, ◌%◌, ◌^◌, Bool, true, false, nat_lt}
-
--- a choice
-infix 5 if◌then◌else◌
-abbrev pub if◌then◌else◌ {ℓ} : {A : Type ℓ} → Bool → A → A → A
-if◌then◌else◌ true yes-branch no-branch = yes-branch
-if◌then◌else◌ false yes-branch no-branch = no-branch
+use Rattle.std.specs.Prelude.{if◌then◌else◌, ℕ, ◌+◌, ◌-◌, ◌*◌, ◌/◌, ◌%◌, ◌^◌, Bool, true, false, nat_lt}
 
 -- a truth value as a bit
 abbrev pub bit : Bool → ℕ

@@ -1,4 +1,5 @@
 -- Points 5 and 6: the latch, HaltBug, one byte or two, and the row that they stand for. What the callees answer comes to the definition's `instruction`.
+use Rattle.std.proofs.Common.{if◌then◌else◌}
 use mathlib.Core.Path.{◌≡◌, refl, ap, sym, ◌∙◌}
 use mathlib.Core.Bool.{Bool, true, false, ◌||◌}
 use mathlib.Core.List.{List}
@@ -8,7 +9,7 @@ use borrow.Author.Tests.{ne_eqb}
 use Rattle.sm83.specs.declared.Cpu.{Cpu}
 use Rattle.sm83.specs.declared.HaltMode.TheVariants.{NotHalting}
 use Rattle.outcome.specs.declared.Outcome.{Outcome}
-use Rattle.sm83.specs.Basics.{if◌then◌else◌, next}
+use Rattle.sm83.specs.Basics.{next}
 use Rattle.definition.specs.Bus.{Fetch, Ask, read}
 use Rattle.sm83.specs.State.{pc, set_pc, set_ime, set_latch, set_halt}
 use Rattle.opcodes.specs.Instruction.{decode, decode_cb}

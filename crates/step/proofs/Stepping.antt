@@ -1,4 +1,5 @@
 -- Points 1 to 4: what the callees answer comes to the definition's step, one law for each way through it.
+use Rattle.std.proofs.Common.{if◌then◌else◌}
 use mathlib.Core.Path.{◌≡◌, refl, ap, sym, ◌∙◌}
 use mathlib.Core.Bool.{Bool, true, false}
 use mathlib.Core.List.{List}
@@ -7,7 +8,7 @@ use Rattle.sm83.specs.declared.Cpu.{Cpu}
 use Rattle.sm83.specs.declared.HaltMode.TheVariants.{NotHalting}
 use Rattle.outcome.specs.declared.Outcome.{Outcome}
 use Rattle.outcome.specs.declared.Outcome.TheVariants.{Halting, Stopped, RunningHDMA}
-use Rattle.sm83.specs.Basics.{if◌then◌else◌, back, high_byte, low_byte}
+use Rattle.sm83.specs.Basics.{back, high_byte, low_byte}
 use Rattle.definition.specs.Bus as bus
 use Rattle.definition.specs.Bus.{Stack, Ask, write}
 use Rattle.outcome.specs.declared.interrupt.NextInterrupt.{NextInterrupt}

@@ -1,10 +1,9 @@
 -- What the stages of `next_instruction` do, in the order of 000: they split the definition's step where the code's functions split it.
-use Rattle.std.specs.Prelude.{◌≡◌, Bool, false, List, ℕ, T}
+use Rattle.std.specs.Prelude.{◌≡◌, Bool, false, List, ℕ, T, if◌then◌else◌}
 use Rattle.sm83.specs.declared.Cpu.{Cpu}
 use Rattle.sm83.specs.declared.HaltMode.TheVariants.{NotHalting}
 use Rattle.outcome.specs.declared.Outcome.{Outcome}
 use Rattle.outcome.specs.declared.Outcome.TheVariants.{Halting}
-use Rattle.sm83.specs.Basics.{if◌then◌else◌}
 use Rattle.definition.specs.Bus.{Ask, peek}
 use Rattle.outcome.specs.Interrupts.{is_pending}
 use Rattle.sm83.specs.State.{set_pc, set_halt}

@@ -1,4 +1,5 @@
 -- One step of the watch: before it PC is tested, and after it the run's answer, with what the step was going to write and to take, says why.
+use Rattle.std.proofs.Common.{if◌then◌else◌}
 use mathlib.Core.Path.{◌≡◌, refl, sym, ap, ap₂, ◌∙◌}
 use mathlib.Core.Bool.{Bool, true, false, not}
 use mathlib.Core.List.{List}
@@ -6,7 +7,6 @@ use Prim.Native.Nat.{ℕ}
 use lib.ListN.{length}
 use borrow.Author.Tests.{not-true, not-false}
 use Rattle.sm83.specs.declared.Cpu.{Cpu}
-use Rattle.sm83.specs.Basics.{if◌then◌else◌}
 use Rattle.sm83.specs.State.{pc}
 use Rattle.outcome.specs.declared.LastOutcome.{LastOutcome}
 use Rattle.outcome.specs.declared.LastOutcome.TheVariants.{Last}

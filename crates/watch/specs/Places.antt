@@ -1,7 +1,7 @@
 -- Where an instruction writes, by its form, and which addresses that are, from the registers after the fetch.
-use Rattle.std.specs.Prelude.{Bool, true, false, List, [], ◌∷◌, ℕ}
+use Rattle.std.specs.Prelude.{Bool, true, false, List, [], ◌∷◌, ℕ, if◌then◌else◌}
 use Rattle.sm83.specs.declared.CpuRegisters.{CpuRegisters}
-use Rattle.sm83.specs.Basics.{if◌then◌else◌, word, next, back}
+use Rattle.sm83.specs.Basics.{word, next, back}
 use Rattle.sm83.specs.State.{pair_bc, pair_de, pair_hl}
 use Rattle.opcodes.specs.Instruction.{Reg8, rB, rC, rD, rE, rH, rL, [HL], rA, Pointer, [BC], [DE], [HL+], [HL-], Cond, c_nz, c_z, c_nc, c_c}
 use Rattle.opcodes.specs.Instruction.{Work, NOP, DI, LD-r8-r8, LD-r8-n8, LD-r16-n16, LD-[r16]-A, LD-A-[r16], LD-[n16]-A, LD-A-[n16], LDH-[n8]-A, LDH-A-[n8], LDH-[C]-A, LDH-A-[C], LD-[n16]-SP, LD-SP-HL, LD-HL-SP+e8, ADD-SP-e8, ALU-A-r8, ALU-A-n8, ACC, INC-r8, DEC-r8, INC-r16, DEC-r16, ADD-HL-r16, PUSH-r16, POP-r16}

@@ -1,6 +1,5 @@
 -- One turn of the walk by instruction length: a byte's mark, and the operand bytes still to come.
-use Rattle.std.specs.Prelude.{ℕ, ◌-◌, ltb}
-use Rattle.sm83.specs.Basics.{if◌then◌else◌}
+use Rattle.std.specs.Prelude.{ℕ, ◌-◌, ltb, if◌then◌else◌}
 use Rattle.opcodes.specs.Instruction.{decode, operands}
 use Rattle.watch.specs.declared.starts.Turn.{Turn}
 

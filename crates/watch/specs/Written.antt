@@ -1,7 +1,6 @@
 -- What a step writes: in the words of its accesses, and by its course.
-use Rattle.std.specs.Prelude.{Bool, true, false, not, ◌&&◌, ◌||◌, List, [], ◌∷◌, ℕ, ◌%◌, eqb, length}
+use Rattle.std.specs.Prelude.{Bool, true, false, not, ◌&&◌, ◌||◌, List, [], ◌∷◌, ℕ, ◌%◌, eqb, length, if◌then◌else◌}
 use Rattle.sm83.specs.declared.Cpu.{Cpu}
-use Rattle.sm83.specs.Basics.{if◌then◌else◌}
 use Rattle.sm83.specs.State.{pc, sp, flags}
 use Rattle.outcome.specs.Interrupts.{is_pending}
 use Rattle.opcodes.specs.Instruction.{decode}

@@ -1,6 +1,6 @@
 // Where an instruction writes, by its opcode byte, and the addresses that it comes to.
-ghost use Rattle.std.specs.Prelude.{◌≡◌, [], ◌∷◌};
-ghost use Rattle.sm83.specs.Basics.{if◌then◌else◌, word, next};
+ghost use Rattle.std.specs.Prelude.{◌≡◌, [], ◌∷◌, if◌then◌else◌};
+ghost use Rattle.sm83.specs.Basics.{word, next};
 ghost use Rattle.opcodes.specs.Instruction.{decode, decode_cb};
 ghost use Rattle.definition.specs.Bus.{byte_at};
 ghost use Rattle.definition.specs.Execution.{high};

@@ -1,6 +1,5 @@
 // Why a watch ends.
-ghost use Rattle.std.specs.Prelude.{◌≡◌};
-ghost use Rattle.sm83.specs.Basics.{if◌then◌else◌};
+ghost use Rattle.std.specs.Prelude.{◌≡◌, if◌then◌else◌};
 ghost use Rattle.routine.specs.Trace.{in_window};
 ghost use Rattle.watch.specs.Written.{addresses_of};
 ghost use Rattle.watch.specs.Reasons.{first_inside, by_outcome, by_state, by_last};

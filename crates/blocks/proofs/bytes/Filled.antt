@@ -1,4 +1,5 @@
 -- A block with bytes written over its front: its length, its front and what stands behind.
+use Rattle.std.proofs.Common.{if◌then◌else◌}
 use mathlib.Core.Path.{◌≡◌, refl, sym, ap, ◌∙◌}
 use mathlib.Core.Bool.{Bool, true, false}
 use mathlib.Core.List.{List, [], ◌∷◌, ◌++◌}
@@ -9,7 +10,6 @@ use lib.Dec.{eqb}
 use lib.ListN.{length, drop, length-append, length-drop}
 use lib.Seq.{drop-cons}
 use borrow.Author.Tests.{eq-eqb, ne_eqb, eqb-true}
-use Rattle.sm83.specs.Basics.{if◌then◌else◌}
 use Rattle.definition.specs.Bus.{byte_at}
 use Rattle.blocks.specs.Bytes.{filled}
 

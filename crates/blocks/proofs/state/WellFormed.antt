@@ -1,4 +1,5 @@
 -- A block is malformed exactly when its length is not 24, one of the five flags is not 0 or 1, or the halt mode is above 3.
+use Rattle.std.proofs.Common.{if◌then◌else◌}
 use mathlib.Core.Path.{◌≡◌, refl}
 use mathlib.Core.Bool.{Bool, true, false, ◌&&◌}
 use mathlib.Core.List.{List}
@@ -7,7 +8,6 @@ use native.Mathlib.Omega.{arith}
 use lib.ListN.{length}
 use borrow.Author.Tests.{eq-eqb, le-leb, eqb-true, leb-true}
 use Rattle.sm83.specs.declared.Cpu.{Cpu}
-use Rattle.sm83.specs.Basics.{if◌then◌else◌}
 use Rattle.definition.specs.Bus.{byte_at}
 use Rattle.blocks.specs.declared.state.StateRead.TheVariants.{State, Malformed}
 use Rattle.blocks.specs.StateBlock.{well_formed, state_in, state_of}

@@ -1,4 +1,5 @@
 -- HALT: what the callees answer comes to what 000 does.
+use Rattle.std.proofs.Common.{if◌then◌else◌}
 use mathlib.Core.Bool.{Bool, true, false}
 use mathlib.Core.Path.{◌≡◌}
 use mathlib.Core.List.{List}
@@ -8,7 +9,6 @@ use Rattle.sm83.specs.declared.HaltMode.TheVariants.{HaltRunInterrupt, HaltNoRun
 use Rattle.outcome.specs.declared.interrupt.NextInterrupt.{NextInterrupt}
 use Rattle.outcome.specs.declared.Outcome.TheVariants.{Normal}
 use Rattle.outcome.specs.Interrupts.{is_pending}
-use Rattle.sm83.specs.Basics.{if◌then◌else◌}
 use Rattle.sm83.specs.State.{set_halt}
 use Rattle.bus.specs.declared.Port.{Port}
 use Rattle.bus.specs.World.{Peeks}

@@ -1,4 +1,5 @@
 -- Jumps, calls and returns: what the callees answer comes to what 000 does.
+use Rattle.std.proofs.Common.{if◌then◌else◌}
 use mathlib.Core.Bool.{Bool, true, false, ◌&&◌}
 use mathlib.Core.Path.{◌≡◌, ap, sym, subst, ◌∙◌}
 use mathlib.Core.List.{List}
@@ -6,7 +7,6 @@ use Prim.Native.Nat.{ℕ, ◌+◌, ◌%◌}
 use lib.Dec.{eqb}
 use Rattle.sm83.specs.declared.Cpu.{Cpu}
 use Rattle.outcome.specs.declared.Outcome.TheVariants.{Normal, InfiniteLoop}
-use Rattle.sm83.specs.Basics.{if◌then◌else◌}
 use Rattle.definition.specs.Step.{Ended}
 use Rattle.sm83.specs.State.{pc, set_pc}
 use Rattle.definition.specs.Execution.{Does, ◌>>=◌, ◌>>◌, nothing, change, go_to, idle, push, pop, return}

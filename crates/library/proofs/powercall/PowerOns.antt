@@ -1,4 +1,5 @@
 -- The state block as power-on leaves it: laws over plain variables, applied to what the callees ensure.
+use Rattle.std.proofs.Common.{if◌then◌else◌}
 use mathlib.Core.Path.{◌≡◌, refl, sym, ap, ◌∙◌}
 use mathlib.Core.Bool.{Bool, true, false, ◌&&◌}
 use mathlib.Core.List.{List, ◌++◌}
@@ -9,7 +10,6 @@ use lib.ListN.{length}
 use lib.Seq.{sets}
 use borrow.Author.Tests.{eq-eqb, ne_eqb}
 use Rattle.sm83.specs.declared.Cpu.{Cpu}
-use Rattle.sm83.specs.Basics.{if◌then◌else◌}
 use Rattle.blocks.specs.Bytes.{filled}
 use Rattle.blocks.specs.StateBlock.{state_fields, state_bytes}
 use Rattle.blocks.proofs.bytes.Stores.{and_then, filling}

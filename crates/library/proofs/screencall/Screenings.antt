@@ -1,4 +1,5 @@
 -- The marks and the block as the screen leaves them: laws over plain variables, applied to what the callees ensure.
+use Rattle.std.proofs.Common.{if◌then◌else◌}
 use mathlib.Core.Path.{◌≡◌, ap, sym}
 use mathlib.Core.Bool.{Bool}
 use mathlib.Core.List.{List}
@@ -6,7 +7,6 @@ use Prim.Native.Nat.{ℕ}
 use lib.ListN.{length}
 use borrow.Author.Tests.{eq-eqb, ne_eqb}
 use Rattle.routine.specs.declared.Verdict.{Verdict}
-use Rattle.sm83.specs.Basics.{if◌then◌else◌}
 use Rattle.routine.specs.Numbers.{verdict_number}
 use Rattle.routine.specs.Screen.{screen}
 use Rattle.screen.specs.Parts.{Screens}

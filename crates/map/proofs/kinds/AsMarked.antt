@@ -1,4 +1,5 @@
 -- A window that passes: the bytes drawn 1 or 3 are exactly those that the screen marks, and as many instructions are counted.
+use Rattle.std.proofs.Common.{if◌then◌else◌}
 use mathlib.Core.Path.{◌≡◌, refl, sym, ap, ap₂, ◌∙◌}
 use mathlib.Core.Bool.{Bool, true, false, ◌||◌}
 use mathlib.Core.List.{List, [], ◌∷◌, map}
@@ -8,7 +9,7 @@ use lib.Dec.{eqb}
 use borrow.Author.Tests.{lt-ltb}
 use lib.ListN.{get_or, length, get_or-map}
 use Rattle.routine.specs.declared.Verdict.TheVariants.{Passes}
-use Rattle.sm83.specs.Basics.{bit, if◌then◌else◌, next}
+use Rattle.sm83.specs.Basics.{bit, next}
 use Rattle.definition.specs.Bus.{byte_at}
 use Rattle.opcodes.specs.Instruction.{decode, operands}
 use Rattle.routine.specs.Flow.{instruction_at}

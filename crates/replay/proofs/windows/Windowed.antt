@@ -1,6 +1,5 @@
 -- The window of a record, screened: the test of its length, what the callees ensure put together, and what agreeing means, value by value.
-use Rattle.std.proofs.Common.{◌≡◌, ℕ, ◌+◌, ◌*◌, Bool, true, false, ◌&&◌, eqb, List, length, replicate, sym, refl, ap, ◌∙◌, ap₂, eq-eqb, ne_eqb, eqb-true}
-use Rattle.sm83.specs.Basics.{if◌then◌else◌}
+use Rattle.std.proofs.Common.{◌≡◌, ℕ, ◌+◌, ◌*◌, Bool, true, false, ◌&&◌, eqb, List, length, replicate, sym, refl, ap, ◌∙◌, ap₂, eq-eqb, ne_eqb, eqb-true, if◌then◌else◌}
 use Rattle.definition.specs.Bus.{byte_at}
 use Rattle.blocks.specs.Bytes.{word_at}
 use Rattle.library.specs.Screened.{LeftByScreen, left_by_screen, screen_blocks}

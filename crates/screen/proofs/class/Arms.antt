@@ -1,4 +1,5 @@
 -- The arms of a match on a number are right by one computed test of each over all numbers; the single numbers of an arm are read off the function's own code.
+use Rattle.std.proofs.Common.{if◌then◌else◌}
 use mathlib.Core.Path.{◌≡◌, refl}
 use mathlib.Core.Bool.{Bool, true, false, not}
 use mathlib.Core.List.{List, [], ◌∷◌}
@@ -6,10 +7,9 @@ use Prim.Native.Nat.{ℕ, ◌<◌}
 use lib.Dec.{T, not_T}
 use lib.Ieee.Bits.{is_true}
 use mir.Facts.{T_not-not}
-use mir.Syntax.{Body, skip, seq, assign, block, loop, cond, switch, exit, return, call, Arms, arm, default, no_default}
+use mir.Syntax.{Body, skip, seq, assign, block, loop, cond, switch, exit, return, call, call_v, lend_static, unreachable, Arms, arm, default, no_default}
 use mir.Val.{has_key}
 use types.Run.{OneOf, hit, miss}
-use Rattle.sm83.specs.Basics.{if◌then◌else◌}
 use Rattle.opcodes.proofs.Tested.{upto, agree}
 
 -- the arms of a match that a function begins with, each by its single numbers
@@ -29,6 +29,9 @@ arms_of (switch o arms) = numbers arms
 arms_of (exit n) = []
 arms_of return = []
 arms_of (call f os p) = []
+arms_of (call_v o f os p) = []
+arms_of (lend_static p f q) = []
+arms_of unreachable = []
 
 -- what the check knows of a number that is in a range: it is no single number of any arm
 abbrev pub Rest : Type 0 → List (List ℕ) → ℕ → Type 0

@@ -1,38 +1,16 @@
--- The test of where an instruction jumps, by its class: the arms of a match on the class are right by one computed test over the ten.
-use mathlib.Core.Path.{◌≡◌, refl, ap, ◌∙◌}
-use mathlib.Core.Bool.{Bool}
-use mathlib.Core.List.{List, [], ◌∷◌}
-use Prim.Native.Nat.{ℕ, ◌<◌}
-use lib.Dec.{lit<}
-use lib.ListN.{get_or}
-use mir.Val.{has_key}
-use types.Run.{OneOf}
-use denote.Enum.Declared.{tag_of}
-use Rattle.sm83.specs.Basics.{next}
+-- The test of where an instruction jumps, by its class as a match on it tells: JP to the word, JR to the offset, the rest nowhere.
+use mathlib.Core.Path.{◌≡◌, refl, sym, ap, ◌∙◌}
+use mathlib.Core.Bool.{Bool, true}
+use mathlib.Core.List.{List}
+use mathlib.Core.Logic.{◌⊎◌, inl, inr}
+use Prim.Native.Nat.{ℕ, ◌+◌}
+use Rattle.sm83.specs.Basics.{word, offset, next}
 use Rattle.definition.specs.Bus.{byte_at}
 use Rattle.routine.specs.declared.Class.{Class}
 use Rattle.routine.specs.declared.Class.TheVariants.{Basic, Barred, Return, ReturnIf, Absolute, AbsoluteIf, Relative, RelativeIf, Call, CallIf}
 use Rattle.routine.specs.Flow.{instruction_at, flow_of, flow_at, jumps_where}
-use Rattle.routine.specs.contracts.Class.{the_type}
 use Rattle.screen.specs.declared.class.Shape.{Shape}
 use Rattle.screen.specs.Shapes.{shape_of}
-use Rattle.screen.proofs.class.Arms.{Right, by_number}
-
--- a match on the class tells the classes apart by number
-abbrev pub class_at : ℕ → Class
-class_at t = get_or (Basic ∷ Barred ∷ Return ∷ ReturnIf ∷ Absolute ∷ AbsoluteIf ∷ Relative ∷ RelativeIf ∷ Call ∷ []) t CallIf
-
-numbered : (k : Class) → (tag_of the_type k < 10) × (class_at (tag_of the_type k) ≡ k)
-numbered Basic = (lit< tt, refl)
-numbered Barred = (lit< tt, refl)
-numbered Return = (lit< tt, refl)
-numbered ReturnIf = (lit< tt, refl)
-numbered Absolute = (lit< tt, refl)
-numbered AbsoluteIf = (lit< tt, refl)
-numbered Relative = (lit< tt, refl)
-numbered RelativeIf = (lit< tt, refl)
-numbered Call = (lit< tt, refl)
-numbered CallIf = (lit< tt, refl)
 
 -- of the instruction at an address, by the shape that was read there
 module _ (m : List ℕ) (a : ℕ) (s : Shape) (read : s ≡ shape_of (instruction_at m a)) (p : ℕ → Bool) where
@@ -42,10 +20,33 @@ module _ (m : List ℕ) (a : ℕ) (s : Shape) (read : s ≡ shape_of (instructio
   abbrev y : ℕ
   y = byte_at m (next (next a))
 
-  abbrev pub jumps_if : Class → Bool
+  abbrev jumps_if : Class → Bool
   jumps_if k = jumps_where p (flow_of k a x y)
 
-  -- an arm by its classes' numbers, and what it gives
-  pub jump_test : (ks : List ℕ) (v : Bool) → Right (λ t. jumps_if (class_at t)) 10 (has_key ks) v → OneOf ks (tag_of the_type s.1) → v ≡ jumps_where p (flow_at m a)
+  -- an arm by its class, and what it gives
+  by_class : (v : Bool) (k : Class) → s.1 ≡ k → v ≡ jumps_if k → v ≡ jumps_where p (flow_at m a)
   unfolding flow_at
-  jump_test ks v right one = by_number (λ t. jumps_if (class_at t)) 10 ks v right (tag_of the_type s.1) (numbered s.1).0 one ∙ ap jumps_if ((numbered s.1).1 ∙ ap (λ (t : Shape). t.1) read)
+  by_class v k e right = right ∙ ap jumps_if (sym e ∙ ap (λ (t : Shape). t.1) read)
+
+  pub to_word : (s.1 ≡ Absolute) ⊎ (s.1 ≡ AbsoluteIf) → p (word y x) ≡ jumps_where p (flow_at m a)
+  to_word (inl e) = by_class _ Absolute e refl
+  to_word (inr e) = by_class _ AbsoluteIf e refl
+
+  pub to_offset : (s.1 ≡ Relative) ⊎ (s.1 ≡ RelativeIf) → p (offset (a + 2) x) ≡ jumps_where p (flow_at m a)
+  to_offset (inl e) = by_class _ Relative e refl
+  to_offset (inr e) = by_class _ RelativeIf e refl
+
+  no_jump : (k : Class) → (k ≡ Absolute → ⊥) → (k ≡ AbsoluteIf → ⊥) → (k ≡ Relative → ⊥) → (k ≡ RelativeIf → ⊥) → true ≡ jumps_if k
+  no_jump Basic n o q r = refl
+  no_jump Barred n o q r = refl
+  no_jump Return n o q r = refl
+  no_jump ReturnIf n o q r = refl
+  no_jump Absolute n o q r = absurd (n refl)
+  no_jump AbsoluteIf n o q r = absurd (o refl)
+  no_jump Relative n o q r = absurd (q refl)
+  no_jump RelativeIf n o q r = absurd (r refl)
+  no_jump Call n o q r = refl
+  no_jump CallIf n o q r = refl
+
+  pub nowhere : (s.1 ≡ Absolute → ⊥) → (s.1 ≡ AbsoluteIf → ⊥) → (s.1 ≡ Relative → ⊥) → (s.1 ≡ RelativeIf → ⊥) → true ≡ jumps_where p (flow_at m a)
+  nowhere n o q r = by_class true s.1 refl (no_jump s.1 n o q r)

@@ -1,4 +1,5 @@
 -- One address of a scan, for any test.
+use Rattle.std.proofs.Common.{if◌then◌else◌}
 use mathlib.Core.Path.{◌≡◌, refl, sym, ap, ap₂, ◌∙◌}
 use mathlib.Core.Bool.{Bool, true, false, not, ◌&&◌}
 use mathlib.Core.List.{List}
@@ -11,7 +12,6 @@ use Rattle.sm83.specs.declared.Addr.{Addr}
 use Rattle.routine.specs.declared.ScreenRefusal.{ScreenRefusal}
 use Rattle.routine.specs.declared.Verdict.{Verdict}
 use Rattle.routine.specs.declared.Verdict.TheVariants.{Passes, RefusedAt}
-use Rattle.sm83.specs.Basics.{if◌then◌else◌}
 use Rattle.sm83.specs.State.{addr}
 use Rattle.routine.specs.Screen.{refused_at, is_marked, scan}
 

@@ -1,4 +1,5 @@
 -- Which course a step takes, by the answers to its questions.
+use Rattle.std.proofs.Common.{if◌then◌else◌}
 use mathlib.Core.Path.{◌≡◌, refl, sym, ap, ap₂, ◌∙◌}
 use mathlib.Core.Bool.{Bool, true, false, not, ◌&&◌, ◌||◌}
 use mathlib.Core.List.{List}
@@ -8,7 +9,7 @@ use lib.Bits.{bit_and, and_le_r}
 use lib.Dec.{eqb, ltb}
 use lib.ListN.{length}
 use Rattle.sm83.specs.declared.Cpu.{Cpu}
-use Rattle.sm83.specs.Basics.{if◌then◌else◌, next}
+use Rattle.sm83.specs.Basics.{next}
 use Rattle.sm83.specs.State.{pc, flags, write_pc}
 use Rattle.outcome.specs.Interrupts.{is_pending}
 use Rattle.definition.specs.Bus.{lowest, byte_at, pending}

@@ -1,4 +1,5 @@
 -- Whether an address lies in a window, and the first of those written that does.
+use Rattle.std.proofs.Common.{if◌then◌else◌}
 use mathlib.Core.Path.{◌≡◌, refl, sym, ap, ◌∙◌}
 use mathlib.Core.Bool.{Bool, true, false}
 use mathlib.Core.List.{List, [], ◌∷◌}
@@ -7,7 +8,6 @@ use native.Mathlib.Omega.{arith}
 use lib.Dec.{ltb}
 use borrow.Author.Tests.{ltb-true, ltb-false, lt-ltb, le-ltb, le-leb, lt-leb}
 use Rattle.sm83.specs.declared.Addr.{Addr}
-use Rattle.sm83.specs.Basics.{if◌then◌else◌}
 use Rattle.routine.specs.Trace.{in_window}
 use Rattle.watch.specs.Written.{addresses_of}
 use Rattle.watch.specs.declared.written.Written.{Written}
