@@ -54,6 +54,7 @@ pub fn line_of(text: &[u8], n: usize) -> &[u8]
 }
 
 // Whether a word starts here and is this one.
+#[tactic(auto, unfolding(crate::specs::Lines::names))]
 fn names(starts: bool, text: &[u8], word: &[u8]) -> bool
     ensures { result ≡ names starts text.now word.now }
 {
