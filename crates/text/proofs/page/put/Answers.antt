@@ -1,6 +1,6 @@
 -- Shows that one byte more is the text's next, and that at the end all of it is written.
 use Rattle.std.proofs.Common.{arith}
-use Rattle.text.proofs.page.Written.{nothing, one_more, all_of_it}
+use Rattle.text.proofs.page.Written.{one_more}
 use Rattle.text.proofs.page.put.Goals as goal
 
 pub loop-i-preserved : goal.loop-i-preserved
