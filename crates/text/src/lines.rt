@@ -28,6 +28,7 @@ fn line_end(b: u8) -> usize
 }
 
 // Where line n starts; the text's end if there is none.
+#[tactic(auto, using(crate::proofs::lines::Found::line_starts, crate::proofs::lines::Found::line_passes, crate::proofs::lines::Found::text_ends))]
 fn start_of(text: &[u8], n: usize) -> usize
     ensures { Place drop text.now (from_line n text.now) result }
 {
