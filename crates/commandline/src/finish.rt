@@ -16,6 +16,7 @@ pub enum Asked {
 }
 
 // A window is the wrong way round if LAST is below FIRST.
+#[tactic(auto, unfolding(crate::specs::Finish::ordered))]
 fn ordered(line: Line, command: Command) -> Asked
     ensures { result ≡ ordered line command }
 {
@@ -29,6 +30,7 @@ fn ordered(line: Line, command: Command) -> Asked
 }
 
 // The last unnamed word is missing, which some may be.
+#[tactic(auto, unfolding(crate::specs::Finish::lacking))]
 fn lacking(line: Line, command: Command, part: Part) -> Asked
     ensures { result ≡ lacking line command part }
 {
@@ -40,6 +42,7 @@ fn lacking(line: Line, command: Command, part: Part) -> Asked
 }
 
 // An unnamed word may be missing.
+#[tactic(auto, unfolding(crate::specs::Finish::filled))]
 fn filled(line: Line, command: Command, turn: Turn) -> Asked
     ensures { result ≡ filled line command turn }
 {
@@ -52,6 +55,7 @@ fn filled(line: Line, command: Command, turn: Turn) -> Asked
 }
 
 // --help asks for the command's help, whatever the line lacks; a topic, for that of the topic.
+#[tactic(auto, unfolding(crate::specs::Finish::or_help))]
 fn or_help(line: Line, command: Command, asked: Asked) -> Asked
     ensures { result ≡ or_help line command asked }
 {
@@ -64,6 +68,7 @@ fn or_help(line: Line, command: Command, asked: Asked) -> Asked
     asked
 }
 
+#[tactic(auto, unfolding(crate::specs::Finish::finish_at))]
 pub fn finish(line: Line) -> Asked
     ensures { result ≡ finished line }
 {

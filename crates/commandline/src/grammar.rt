@@ -279,6 +279,7 @@ pub enum NamedCommand {
     Unknown,
 }
 
+#[tactic(auto, using(crate::proofs::Lines::no_line), unfolding(crate::specs::Grammar::command_named))]
 pub(crate) fn command_named(word: &[u8]) -> NamedCommand
     ensures { result ≡ command_named word.now }
 {
@@ -303,6 +304,7 @@ pub enum NamedOption {
     Unknown,
 }
 
+#[tactic(auto, using(crate::proofs::Lines::no_line), unfolding(crate::specs::Grammar::option_named))]
 pub(crate) fn option_named(word: &[u8]) -> NamedOption
     ensures { result ≡ option_named word.now }
 {
@@ -338,6 +340,7 @@ pub enum NamedPower {
     Unknown,
 }
 
+#[tactic(auto, using(crate::proofs::Lines::no_line), unfolding(crate::specs::Grammar::power_named))]
 pub(crate) fn power_named(word: &[u8]) -> NamedPower
     ensures { result ≡ power_named word.now }
 {

@@ -21,6 +21,7 @@ pub enum Read {
     Not(Mistake),
 }
 
+#[tactic(auto, unfolding(crate::specs::Take::as_number))]
 fn as_number(part: Part, index: usize, number: Number) -> Read
     ensures { result ≡ as_number part index number }
 {
@@ -30,6 +31,7 @@ fn as_number(part: Part, index: usize, number: Number) -> Read
     }
 }
 
+#[tactic(auto, unfolding(crate::specs::Take::in_range))]
 fn in_range(part: Part, index: usize, n: u64) -> Read
     ensures { result ≡ in_range part index n }
 {
@@ -40,6 +42,7 @@ fn in_range(part: Part, index: usize, n: u64) -> Read
     Read::As(Given::Address(n as u16))
 }
 
+#[tactic(auto, unfolding(crate::specs::Take::as_address))]
 fn as_address(part: Part, index: usize, number: Number) -> Read
     ensures { result ≡ as_address part index number }
 {
@@ -49,6 +52,7 @@ fn as_address(part: Part, index: usize, number: Number) -> Read
     }
 }
 
+#[tactic(auto, unfolding(crate::specs::Take::as_power))]
 fn as_power(part: Part, index: usize, named: NamedPower) -> Read
     ensures { result ≡ as_power part index named }
 {
@@ -58,6 +62,7 @@ fn as_power(part: Part, index: usize, named: NamedPower) -> Read
     }
 }
 
+#[tactic(auto, unfolding(crate::specs::Take::as_topic))]
 fn as_topic(index: usize, named: NamedCommand) -> Read
     ensures { result ≡ as_topic index named }
 {
@@ -68,6 +73,7 @@ fn as_topic(index: usize, named: NamedCommand) -> Read
 }
 
 // A word as the value of a part.
+#[tactic(auto, unfolding(crate::specs::Take::value_in))]
 fn value_in(kind: Kind, part: Part, word: &[u8], index: usize) -> Read
     ensures { result ≡ value_in kind part word.now index }
 {
@@ -82,6 +88,7 @@ fn value_in(kind: Kind, part: Part, word: &[u8], index: usize) -> Read
 }
 
 // A value for a part; the line then stands at `after`.
+#[tactic(auto, unfolding(crate::specs::Take::keeps))]
 fn take_value(line: Line, after: Stage, part: Part, word: &[u8], index: usize) -> Line
     ensures { result ≡ take_value line after part word.now index }
 {
@@ -92,6 +99,7 @@ fn take_value(line: Line, after: Stage, part: Part, word: &[u8], index: usize) -
 }
 
 // Where a line stands when these values of an option are due: at the first of them; if there are none, the option is done.
+#[tactic(auto, unfolding(crate::specs::Take::awaiting))]
 fn awaiting(command: Command, turn: Turn, values: Turn) -> Stage
     ensures { result ≡ awaiting command turn values }
 {
@@ -103,6 +111,7 @@ fn awaiting(command: Command, turn: Turn, values: Turn) -> Stage
     }
 }
 
+#[tactic(auto, unfolding(crate::specs::Take::take_option))]
 fn take_option(line: Line, command: Command, turn: Turn, part: Part, index: usize) -> Line
     ensures { result ≡ take_option line command turn part index }
 {
@@ -124,6 +133,7 @@ fn take_option(line: Line, command: Command, turn: Turn, part: Part, index: usiz
 }
 
 // A word that begins with -.
+#[tactic(auto, unfolding(crate::specs::Take::take_dashed))]
 fn take_dashed(line: Line, command: Command, turn: Turn, word: &[u8], index: usize) -> Line
     ensures { result ≡ take_dashed line command turn index (option_named word.now) }
 {
@@ -133,6 +143,7 @@ fn take_dashed(line: Line, command: Command, turn: Turn, word: &[u8], index: usi
     }
 }
 
+#[tactic(auto, unfolding(crate::specs::Take::take_turn))]
 fn take_turn(line: Line, command: Command, turn: Turn, word: &[u8], index: usize) -> Line
     ensures { result ≡ take_turn line command turn word.now index }
 {
@@ -146,6 +157,7 @@ fn take_turn(line: Line, command: Command, turn: Turn, word: &[u8], index: usize
     }
 }
 
+#[tactic(auto, unfolding(crate::specs::Take::take_command))]
 fn take_command(line: Line, word: &[u8], index: usize) -> Line
     ensures { result ≡ take_command line index (command_named word.now) }
 {
@@ -163,6 +175,7 @@ fn is_dashed(word: &[u8]) -> bool
 }
 
 // An option or an unnamed word.
+#[tactic(auto, unfolding(crate::specs::Take::take_next))]
 fn take_next(line: Line, command: Command, turn: Turn, word: &[u8], index: usize) -> Line
     ensures { result ≡ take_next line command turn word.now index }
 {
@@ -175,6 +188,7 @@ fn take_next(line: Line, command: Command, turn: Turn, word: &[u8], index: usize
 
 // The value of an option. A word that begins with - is none, so that an option whose value was left out does not take the next option for it;
 // a file with such a name is written ./-name.
+#[tactic(auto, unfolding(crate::specs::Take::take_awaited))]
 fn take_awaited(line: Line, after: Stage, part: Part, word: &[u8], index: usize) -> Line
     ensures { result ≡ take_awaited line after part word.now index }
 {
@@ -185,6 +199,7 @@ fn take_awaited(line: Line, after: Stage, part: Part, word: &[u8], index: usize)
     take_value(line, after, part, word, index)
 }
 
+#[tactic(auto, unfolding(crate::specs::Take::take_at))]
 pub fn take(line: Line, word: &[u8], index: usize) -> Line
     ensures { result ≡ take_word line word.now index }
 {
@@ -200,6 +215,7 @@ pub fn take(line: Line, word: &[u8], index: usize) -> Line
 }
 
 // A word that was too long to be read.
+#[tactic(auto, unfolding(crate::specs::Take::overlong_at))]
 pub fn overlong(line: Line, index: usize) -> Line
     ensures { result ≡ take_overlong line index }
 {

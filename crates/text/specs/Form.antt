@@ -1,5 +1,5 @@
 -- A form: a text in which some bytes are marks. # $ % & stand for the next value, @ for the word as it can be shown.
-use Rattle.std.specs.Prelude.{Bool, ◌&&◌, List, [], ◌∷◌, ◌++◌, ℕ, ◌+◌, ◌/◌, ◌%◌, eqb, ltb, get_or}
+use Rattle.std.specs.Prelude.{◌&&◌, List, [], ◌∷◌, ◌++◌, ℕ, ◌+◌, ◌/◌, ◌%◌, eqb, ltb, get_or}
 use Rattle.text.specs.Page.{choose}
 use Rattle.text.specs.Hex.{hex2, hex4}
 use Rattle.text.specs.Digits.{decimal}

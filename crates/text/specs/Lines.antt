@@ -1,5 +1,5 @@
 -- A text of lines: the line with a number, and the number of the line that holds a word.
-use Rattle.std.specs.Prelude.{◌≡◌, Bool, true, false, ◌&&◌, List, [], ◌∷◌, ℕ, ◌+◌, ◌-◌, ◌≤◌, eqb, ltb, length}
+use Rattle.std.specs.Prelude.{◌≡◌, Bool, true, ◌&&◌, List, [], ◌∷◌, ℕ, ◌+◌, ◌-◌, ◌≤◌, eqb, ltb, length}
 use Rattle.text.specs.Page.{choose}
 use Rattle.text.specs.Same.{same_bytes}
 

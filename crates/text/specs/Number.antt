@@ -1,7 +1,6 @@
 -- Numbers as a person writes them.
 use Rattle.std.specs.Prelude.{Bool, true, false, ◌||◌, List, [], ◌∷◌, ℕ, ◌+◌, ◌-◌, ◌*◌, eqb, ltb}
 use Rattle.text.specs.Page.{choose}
-use Rattle.text.specs.declared.number.Fault.{Fault}
 use Rattle.text.specs.declared.number.Fault.TheVariants.{Empty, NotADigit, HAtTheEnd, HexWithoutPrefix, NoDigitAfterPrefix, TooLarge}
 use Rattle.text.specs.declared.number.Number.{Number}
 use Rattle.text.specs.declared.number.Number.TheVariants.{Is, Not}

@@ -42,6 +42,7 @@ fn is_h(b: u8) -> bool
 }
 
 // Why a word is not digits alone: there is an h behind them, or something else.
+#[tactic(auto, unfolding(crate::specs::Address::not_digits))]
 fn not_digits(word: &[u8]) -> Fault
     ensures { result ≡ not_digits word.now }
 {
@@ -59,6 +60,7 @@ fn not_digits(word: &[u8]) -> Fault
     Fault::NotADigit
 }
 
+#[tactic(auto, unfolding(crate::specs::Address::hex_in))]
 fn hex_in(word: &[u8]) -> Number
     ensures { result ≡ hex_in word.now }
 {
@@ -69,6 +71,7 @@ fn hex_in(word: &[u8]) -> Number
     Number::Not(not_digits(word))
 }
 
+#[tactic(auto, unfolding(crate::specs::Address::decimal_in))]
 fn decimal_in(word: &[u8]) -> Number
     ensures { result ≡ decimal_in word.now }
 {
@@ -82,6 +85,7 @@ fn decimal_in(word: &[u8]) -> Number
 }
 
 // A word without a mark: four digits, or a decimal digit alone.
+#[tactic(auto, unfolding(crate::specs::Address::plain_in))]
 fn plain_in(word: &[u8]) -> Number
     ensures { result ≡ plain_in word.now }
 {
@@ -116,6 +120,7 @@ fn is_x(b: u8) -> bool
 }
 
 // How many bytes in front say that the digits are hexadecimal: $ or 0x.
+#[tactic(auto, using(crate::proofs::address::Mark::stands), unfolding(crate::specs::Address::mark_of))]
 fn mark_of(word: &[u8]) -> usize
     ensures { MarkOf word.now result }
 {
@@ -134,6 +139,7 @@ fn mark_of(word: &[u8]) -> usize
     0
 }
 
+#[tactic(auto, unfolding(crate::specs::Address::address_in))]
 pub fn address_in(word: &[u8]) -> Number
     ensures { result ≡ address_in word.now }
 {

@@ -7,6 +7,7 @@ use crate::hex::glyph;
 use crate::page::put_byte;
 
 // One decimal digit, unless it is a zero in front.
+#[tactic(auto, using(crate::proofs::page::Written::nothing), unfolding(crate::specs::Digits::digit_at))]
 fn put_digit(out: &mut [u8], at: usize, n: u64, scale: u64) -> usize
     requires { 0 < scale }
     ensures { Wrote (page at out.old) (digit_at n scale) (page result out.new) }

@@ -32,6 +32,7 @@ fn put_flags(out: &mut [u8], at: usize, f: u64) -> usize
 }
 
 // What a byte of a form stands for.
+#[tactic(auto, unfolding(crate::specs::Form::meant))]
 fn put_meant(out: &mut [u8], at: usize, b: u8, value: u64, word: &[u8]) -> usize
     ensures { Wrote (page at out.old) (meant b value word.now) (page result out.new) }
 {

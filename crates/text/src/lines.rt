@@ -28,6 +28,7 @@ fn line_end(b: u8) -> usize
 }
 
 // Where line n starts; the text's end if there is none.
+#[tactic(auto, using(crate::proofs::lines::Found::line_starts, crate::proofs::lines::Found::line_passes, crate::proofs::lines::Found::text_ends))]
 fn start_of(text: &[u8], n: usize) -> usize
     ensures { Place drop text.now (from_line n text.now) result }
 {
@@ -54,6 +55,7 @@ pub fn line_of(text: &[u8], n: usize) -> &[u8]
 }
 
 // Whether a word starts here and is this one.
+#[tactic(auto, unfolding(crate::specs::Lines::names))]
 fn names(starts: bool, text: &[u8], word: &[u8]) -> bool
     ensures { result ≡ names starts text.now word.now }
 {

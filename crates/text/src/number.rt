@@ -41,6 +41,7 @@ pub enum Reading {
     Wrong(Fault),
 }
 
+#[tactic(auto, unfolding(crate::specs::Number::digit_of))]
 pub(crate) fn digit_of(b: u8) -> Digit
     ensures { result ≡ digit_of b }
 {
@@ -87,6 +88,7 @@ fn times_base(value: u64, hex: bool) -> u64
 }
 
 // One digit more. Numbers above 4,294,967,295 are too large.
+#[tactic(auto, unfolding(crate::specs::Number::grown))]
 fn grown(value: u64, hex: bool, digit: u8) -> Number
     ensures { result ≡ grown value hex digit }
 {
@@ -102,6 +104,7 @@ fn grown(value: u64, hex: bool, digit: u8) -> Number
     Number::Is(next)
 }
 
+#[tactic(auto, unfolding(crate::specs::Number::decimal))]
 fn decimal(value: u64, digit: u8) -> Reading
     ensures { result ≡ decimal (grown value false digit) }
 {
@@ -111,6 +114,7 @@ fn decimal(value: u64, digit: u8) -> Reading
     }
 }
 
+#[tactic(auto, unfolding(crate::specs::Number::hexadecimal))]
 fn hexadecimal(value: u64, digit: u8) -> Reading
     ensures { result ≡ hexadecimal (grown value true digit) }
 {
@@ -120,6 +124,7 @@ fn hexadecimal(value: u64, digit: u8) -> Reading
     }
 }
 
+#[tactic(auto, unfolding(crate::specs::Number::read_decimal))]
 fn read_decimal(value: u64, digit: Digit) -> Reading
     ensures { result ≡ read_decimal value digit }
 {
@@ -131,6 +136,7 @@ fn read_decimal(value: u64, digit: Digit) -> Reading
     }
 }
 
+#[tactic(auto, unfolding(crate::specs::Number::read_hex))]
 fn read_hex(value: u64, digit: Digit) -> Reading
     ensures { result ≡ read_hex value digit }
 {
@@ -143,6 +149,7 @@ fn read_hex(value: u64, digit: Digit) -> Reading
 }
 
 // The first byte: a 0 in front may become 0x.
+#[tactic(auto, unfolding(crate::specs::Number::begun))]
 fn begun(b: u8) -> Reading
     ensures { result ≡ begun b }
 {
@@ -153,6 +160,7 @@ fn begun(b: u8) -> Reading
     read_decimal(0, digit_of(b))
 }
 
+#[tactic(auto, unfolding(crate::specs::Number::after_zero))]
 fn after_zero(b: u8) -> Reading
     ensures { result ≡ after_zero b }
 {
@@ -166,6 +174,7 @@ fn after_zero(b: u8) -> Reading
 }
 
 // One byte more. The first mistake stays.
+#[tactic(auto, unfolding(crate::specs::Number::read_byte))]
 fn read_byte(r: Reading, b: u8) -> Reading
     ensures { result ≡ read_byte r b }
 {
@@ -179,6 +188,7 @@ fn read_byte(r: Reading, b: u8) -> Reading
     }
 }
 
+#[tactic(auto, unfolding(crate::specs::Number::ended))]
 fn ended(r: Reading) -> Number
     ensures { result ≡ ended r }
 {

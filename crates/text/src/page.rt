@@ -2,6 +2,7 @@
 ghost use Rattle.std.specs.Prelude.{◌≡◌, ◌∷◌, []};
 ghost use Rattle.text.specs.Page.{page, Wrote};
 
+#[tactic(auto, using(crate::proofs::page::Written::with_room, crate::proofs::page::Written::without_room))]
 pub(crate) fn put_byte(out: &mut [u8], at: usize, b: u8) -> usize
     ensures { Wrote (page at out.old) (b ∷ []) (page result out.new) }
 {

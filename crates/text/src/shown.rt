@@ -8,6 +8,7 @@ use crate::hex::put_hex2;
 use crate::page::put_byte;
 
 // Control characters: below 32, 127, and in UTF-8 the bytes 80 to 9F behind C2.
+#[tactic(auto, unfolding(crate::specs::Shown::obeyed))]
 fn obeyed(before: u8, b: u8) -> bool
     ensures { result ≡ obeyed before b }
 {
@@ -28,6 +29,7 @@ fn put_coded(out: &mut [u8], at: usize, b: u8) -> usize
     put_hex2(out, at, b)
 }
 
+#[tactic(auto, unfolding(crate::specs::Shown::shown_byte))]
 fn put_shown_byte(out: &mut [u8], at: usize, before: u8, b: u8) -> usize
     ensures { Wrote (page at out.old) (shown_byte before b) (page result out.new) }
 {

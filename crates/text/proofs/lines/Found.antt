@@ -1,16 +1,15 @@
 -- One byte more of a line, of the lines in front, of the words: what a turn of each loop leaves to do is what was to be done.
-use mathlib.Core.Path.{◌≡◌, refl, sym, ap, ap₂, subst, ◌∙◌}
-use mathlib.Core.Bool.{Bool, true, false, ◌&&◌}
+use mathlib.Core.Path.{◌≡◌, sym, ap, ◌∙◌}
+use mathlib.Core.Bool.{Bool, true, false}
 use mathlib.Core.List.{List, [], ◌∷◌, ◌++◌, append_assoc, append-nil}
-use Prim.Native.Nat.{ℕ, zero, suc, ◌+◌, ◌-◌, ◌<◌, ◌≤◌}
+use Prim.Native.Nat.{ℕ, ◌+◌, ◌-◌, ◌<◌, ◌≤◌}
 use native.Mathlib.Numerals.{add-one}
 use native.Mathlib.Omega.{arith}
-use lib.Dec.{eqb, ltb}
+use lib.Dec.{ltb}
 use lib.ListN.{length, take, drop, get_or, drop_of_length-le, length-drop}
 use lib.Seq.{drop-cons, take-suc, take_all}
 use borrow.Author.Tests.{lt-ltb, le-ltb, eq-eqb, ne_eqb}
-use Rattle.text.specs.Page.{choose}
-use Rattle.text.specs.Lines.{until, line_end, from_line, names, number_from}
+use Rattle.text.specs.Lines.{Place, until, line_end, from_line, names, number_from}
 
 -- a text that has a byte left, and one that has none
 pub here : (text : List ℕ) (i : ℕ) → i < length text → drop i text ≡ get_or text i 0 ∷ drop (i + 1) text
@@ -60,6 +59,22 @@ module _ (text : List ℕ) (i left : ℕ) where
   pub none_there : length text ≤ i → from_line left (drop i text) ≡ drop i text
   unfolding from_line
   none_there none_left = ap (from_line left) (over text i none_left) ∙ sym (over text i none_left)
+
+-- a turn of the search for line n: it starts here, one byte more, and the text's end
+pub line_starts :
+    (text : List ℕ) (i left n : ℕ) → from_line left (drop i text) ≡ from_line n text → i < length text → left ≡ 0 → Place drop text (from_line n text) i
+line_starts text i left n so_far more none =
+    record { inside = omega arith; leaves = sym (starts_here text i left more none) ∙ so_far }
+
+pub line_passes :
+    (text : List ℕ) (i left n ends : ℕ) → from_line left (drop i text) ≡ from_line n text → i < length text → (left ≡ 0 → ⊥) → ends ≡ line_end (get_or text i 0) → from_line (left - ends) (drop (i + 1) text) ≡ from_line n text
+line_passes text i left n ends so_far more some is =
+    ap (λ (k : ℕ). from_line (left - k) (drop (i + 1) text)) is ∙ line_passed text i left more some ∙ so_far
+
+pub text_ends :
+    (text : List ℕ) (i left n : ℕ) → from_line left (drop i text) ≡ from_line n text → i ≤ length text → length text ≤ i → Place drop text (from_line n text) i
+text_ends text i left n so_far inside none_left =
+    record { inside = inside; leaves = sym (none_there text i left none_left) ∙ so_far }
 
 -- the lines that are searched: the word is here, one byte more, and the text's end
 module _ (text word : List ℕ) (n : ℕ) (starts : Bool) (i : ℕ) where

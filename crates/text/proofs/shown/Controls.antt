@@ -1,6 +1,6 @@
 -- One byte of a word more, and its end: what is left to be written is what was to be written.
 use mathlib.Core.Path.{◌≡◌, sym, ap, ◌∙◌}
-use mathlib.Core.List.{List, [], ◌∷◌, ◌++◌}
+use mathlib.Core.List.{List, ◌++◌}
 use Prim.Native.Nat.{ℕ, ◌+◌, ◌<◌, ◌≤◌}
 use lib.ListN.{length, drop, get_or}
 use Rattle.text.specs.Page.{Page, written, Wrote}

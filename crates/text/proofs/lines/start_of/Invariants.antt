@@ -1,0 +1,10 @@
+-- Shows that the lines still to be passed, counted from here, end where all of them do.
+use Rattle.std.proofs.Common.{length, ◌-◌, ◌≡◌, drop, ◌≤◌}
+use Rattle.text.specs.Lines.{from_line}
+use Rattle.text.proofs.lines.start_of.Given as goal
+
+abbrev pub invariant-loop-i : goal.invariant-loop-i
+invariant-loop-i l = (l.i ≤ length l.text) × (from_line l.left (drop l.i l.text) ≡ from_line l.n l.text)
+
+abbrev pub decreases-loop-i : goal.decreases-loop-i
+decreases-loop-i l = length l.text - l.i
