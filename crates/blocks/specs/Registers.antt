@@ -1,5 +1,5 @@
 -- The registers in twelve bytes: 0 A, 1 F, 2 B, 3 C, 4 D, 5 E, 6 H, 7 L, 8-9 SP, 10-11 PC.
-use Rattle.std.specs.Prelude.{List, [], ◌∷◌, ◌++◌, ℕ, ◌+◌}
+use Rattle.std.specs.Prelude.{List, ◌∷◌, ◌++◌, ℕ, ◌+◌}
 use Rattle.sm83.specs.declared.CpuRegisters.{CpuRegisters}
 use Rattle.sm83.specs.State.{registers_of}
 use Rattle.definition.specs.Bus.{byte_at}

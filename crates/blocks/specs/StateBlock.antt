@@ -1,13 +1,11 @@
 -- The state block, 24 bytes: 0 A, 1 F, 2 B, 3 C, 4 D, 5 E, 6 H, 7 L, 8-9 SP, 10-11 PC, 12 IME, 13 EI latch, 14 halt mode, 15 stopped,
 -- 16 HDMA running, 17 DMG; 18-23 are reserved, not looked at and not changed.
-use Rattle.std.specs.Prelude.{Bool, ◌&&◌, List, [], ◌∷◌, ◌++◌, ℕ, ◌+◌, eqb, length, get_or, if◌then◌else◌}
-use Rattle.sm83.specs.declared.CpuRegisters.{CpuRegisters}
+use Rattle.std.specs.Prelude.{Bool, ◌&&◌, List, [], ◌∷◌, ◌++◌, ℕ, eqb, length, get_or, if◌then◌else◌}
 use Rattle.sm83.specs.declared.Cpu.{Cpu}
 use Rattle.sm83.specs.declared.HaltMode.{HaltMode}
 use Rattle.sm83.specs.declared.HaltMode.TheVariants.{NotHalting, HaltRunInterrupt, HaltNoRunInterrupt, HaltBug}
 use Rattle.sm83.specs.Basics.{bit}
 use Rattle.definition.specs.Bus.{byte_at}
-use Rattle.sm83.specs.State.{registers_of}
 use Rattle.blocks.specs.declared.state.StateRead.{StateRead}
 use Rattle.blocks.specs.declared.state.StateRead.TheVariants.{State, Malformed}
 use Rattle.blocks.specs.WellFormed.{flags_well_formed}

@@ -1,4 +1,5 @@
-// The core for C and Rust to link: power-on, a step, a run and the screen on blocks of bytes (include/phkarotuk.h has the offsets).
+// The core for Rattle to call, and for C and Rust to link by `library_c`, which exports each function that is named phk_: power-on, a step,
+// a run and the screen on blocks of bytes (include/phkarotuk.h has the offsets).
 // Each answers the document's number, or 255 if a block is malformed; then nothing is changed.
 #![tactic(auto)]
 
@@ -23,39 +24,34 @@ const LIBRARY: u64 = 0x010000;
 const DOCUMENT: u64 = 0x031bd0da;
 
 // The library's number in the upper 32 bits, the document's in the lower.
-#[unsafe(no_mangle)]
-pub extern "C" fn phk_version() -> u64
+pub fn phk_version() -> u64
     ensures { result ≡ version }
 {
     LIBRARY * 4294967296 + DOCUMENT
 }
 
 // The whole state block at power-on.
-#[unsafe(no_mangle)]
-pub extern "C" fn phk_power_on(state: &mut [u8], model: u16) -> u16
+pub fn phk_power_on(state: &mut [u8], model: u16) -> u16
     ensures { left_by_power_on result state.new ≡ powered_on model state.old }
 {
     power_on_block(state, model)
 }
 
-#[unsafe(no_mangle)]
-pub extern "C" fn phk_run(state: &mut [u8], mem: &mut [u8], budget: u16, answer: &mut [u8]) -> u16
+pub fn phk_run(state: &mut [u8], mem: &mut [u8], budget: u16, answer: &mut [u8]) -> u16
     ensures { left result state.new mem.new answer.new ≡ run_blocks budget state.old mem.old answer.old }
 {
     run_blocks(state, mem, budget, answer)
 }
 
 // A run of one step.
-#[unsafe(no_mangle)]
-pub extern "C" fn phk_step(state: &mut [u8], mem: &mut [u8], answer: &mut [u8]) -> u16
+pub fn phk_step(state: &mut [u8], mem: &mut [u8], answer: &mut [u8]) -> u16
     ensures { left result state.new mem.new answer.new ≡ run_blocks 1 state.old mem.old answer.old }
 {
     run_blocks(state, mem, 1, answer)
 }
 
 // Memory is never changed; the marks are as the screen leaves them.
-#[unsafe(no_mangle)]
-pub extern "C" fn phk_screen(
+pub fn phk_screen(
     mem: &[u8],
     first: u16,
     last: u16,

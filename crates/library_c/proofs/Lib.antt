@@ -1,0 +1,2 @@
+-- The contracts of the exports leave one answer.
+pub mod Determined
