@@ -1,6 +1,5 @@
 -- The definition's results as the values that the code returns.
-use Rattle.std.specs.Prelude.{◌≡◌, ℕ, ◌*◌, ◌≤◌, Bool}
-use Rattle.sm83.specs.Basics.{bit}
+use Rattle.std.specs.Prelude.{ℕ, Bool}
 use Rattle.sm83.specs.Flags.{flag_byte}
 use Rattle.opcodes.specs.Arithmetic.{Result}
 use Rattle.arithmetic.specs.declared.Computed.{Computed}

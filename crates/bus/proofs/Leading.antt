@@ -1,11 +1,11 @@
 -- How parts are put together: one after another, along an equation of what is done, of the value or of the state that is left.
-use Rattle.std.proofs.Common.{◌≡◌, ℕ, List, sym, refl, ap, ◌∙◌, subst}
+use Rattle.std.proofs.Common.{◌≡◌, ℕ, List, sym, ap, ◌∙◌, subst}
 use Rattle.sm83.specs.declared.Cpu.{Cpu}
 use Rattle.definition.specs.Bus.{Ask, Operand}
 use Rattle.definition.specs.Step.{Ended}
 use Rattle.definition.specs.Execution.{Does, ◌>>=◌, give, store}
 use Rattle.bus.specs.declared.Port.{Port}
-use Rattle.bus.specs.World.{World, world, leads}
+use Rattle.bus.specs.World.{world, leads}
 use Rattle.bus.specs.Leads.{Leads, Reaches}
 
 module _ (s t u : Cpu) (port port' port'' : Port) (m m' m'' : List ℕ) where

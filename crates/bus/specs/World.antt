@@ -1,6 +1,5 @@
 -- The code's memory: bytes that the caller lends, and a port that counts the M-cycles. What it shows and what an access leaves is shut: above this crate a proof knows only where a tree leads.
 use Rattle.std.specs.Prelude.{◌≡◌, ℕ, ◌+◌, ◌%◌, List, length, slice_set}
-use Rattle.sm83.specs.declared.MCycles.{MCycles}
 use Rattle.outcome.specs.declared.interrupt.NextInterrupt.{NextInterrupt}
 use Rattle.definition.specs.Bus.{Bus, Kind, Fetch, Operand, Stack, Ask, leaf, read, write, idle, peek, write_and_take, byte_at, pending, taken, plain}
 use Rattle.definition.specs.Step.{Ended}

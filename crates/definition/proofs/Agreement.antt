@@ -4,7 +4,7 @@ use mathlib.Core.Path.{◌≡◌, refl, ap, ◌∙◌}
 use mathlib.Core.Bool.{Bool, true, false}
 use Prim.Native.Nat.{ℕ, suc, ◌<◌}
 use Rattle.opcodes.specs.Instruction.{decode, decode_cb, length_of}
-use Rattle.opcodes.specs.Published.{FlagColumn, keep, entry, is_cb, one_of, bytes, cycles_not_taken, cycles_taken, cycles_after_cb, flag_columns, flag_columns_after_cb, illegal_opcodes, published_bytes, published_cycles, published_flags}
+use Rattle.opcodes.specs.Published.{FlagColumn, keep, entry, is_cb, bytes, cycles_not_taken, cycles_taken, cycles_after_cb, flag_columns, flag_columns_after_cb, published_bytes, published_cycles, published_flags}
 use Rattle.opcodes.proofs.Tested.{agree}
 use Rattle.opcodes.proofs.FlagColumns.{flags_with, flags_of, prefixed_flags}
 use Rattle.definition.proofs.Cycles.{cycles_with, cycles_of, prefixed_cycles}

@@ -1,6 +1,6 @@
 -- Every instruction keeps to its columns, for every state and on every kind of memory.
 use mathlib.Core.Path.{refl, ap}
-use mathlib.Core.Bool.{Bool, true, false}
+use mathlib.Core.Bool.{Bool, false}
 use mathlib.Core.List.{List, ◌∷◌}
 use Prim.Native.Nat.{ℕ, suc}
 use Rattle.sm83.specs.declared.Cpu.{Cpu}

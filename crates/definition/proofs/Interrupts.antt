@@ -9,7 +9,7 @@ use native.Mathlib.Omega.{arith}
 use native.Mathlib.Nat.{min-eq_left, min-le_left, le_trans}
 use lib.Dec.{eqb}
 use lib.Bits.{bit_and}
-use lib.ListN.{set, length}
+use lib.ListN.{length}
 use lib.Seq.{get_or-set_same, get_or-set_other}
 use borrow.Author.Tests.{eqb-true, eqb-false}
 use Rattle.sm83.specs.Basics.{bit_at, cleared}

@@ -6,7 +6,7 @@ use Prim.Native.Nat.{ℕ}
 use lib.Dec.{eqb, T}
 use Rattle.sm83.specs.declared.Cpu.{Cpu}
 use Rattle.outcome.specs.declared.Outcome.{Outcome}
-use Rattle.outcome.specs.declared.Outcome.TheVariants.{Normal, InfiniteLoop, Halting, RunningHDMA, Stopped, RunningInterrupt, Breakpoint, Refused}
+use Rattle.outcome.specs.declared.Outcome.TheVariants.{Normal, InfiniteLoop}
 use Rattle.sm83.specs.declared.HaltMode.TheVariants.{HaltRunInterrupt, HaltNoRunInterrupt, HaltBug}
 use Rattle.sm83.specs.Basics.{word, next, offset}
 use Rattle.definition.specs.Bus as bus
@@ -17,7 +17,7 @@ use Rattle.opcodes.specs.Arithmetic.{holds}
 use Rattle.sm83.specs.State.{pc, flags, pair_hl, set_halt}
 use Rattle.opcodes.specs.Instruction.{Jump, JP-n16, JP-HL, JR-e8, CALL-n16, RET, RETI, JP-cc-n16, JR-cc-e8, CALL-cc-n16, RET-cc, RST-vec}
 use Rattle.opcodes.specs.Instruction.{Instruction, does, goes, CB-prefix, HALT, STOP, EI, LD-B-B, ILLEGAL, decode_cb}
-use Rattle.definition.specs.Execution.{Does, ◌>>=◌, ◌>>◌, change, peek, byte_at_pc, work, prefixed, jump, execute, executing}
+use Rattle.definition.specs.Execution.{Does, ◌>>=◌, change, peek, byte_at_pc, work, prefixed, jump, execute, executing}
 use Rattle.definition.specs.Step.{Ended, ended}
 use Rattle.definition.proofs.Refused.{is_refused}
 use Rattle.definition.proofs.Compose.{bind}

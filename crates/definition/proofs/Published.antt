@@ -11,7 +11,7 @@ use Rattle.outcome.specs.declared.Outcome.TheVariants.{Refused}
 use Rattle.sm83.specs.Basics.{next, offset}
 use Rattle.definition.specs.Bus.{Fetch, Read, Bus, Performed, run_on, logged, mcycles}
 use Rattle.sm83.specs.State.{pc, sp, flags, set_pc}
-use Rattle.opcodes.specs.Instruction.{Instruction, does, goes, CB-prefix, HALT, STOP, EI, LD-B-B, ILLEGAL, decode, operands, length_of}
+use Rattle.opcodes.specs.Instruction.{Instruction, decode, operands, length_of}
 use Rattle.definition.specs.Execution.{executing}
 use Rattle.definition.specs.Step.{Ended, is_bug, enabled, fetched, admission, accepted, step_on}
 use Rattle.opcodes.specs.Published.{FlagColumn, one_of, illegal_opcodes, published_bytes, published_cycles, published_flags}

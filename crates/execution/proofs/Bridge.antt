@@ -8,7 +8,7 @@ use Rattle.outcome.specs.declared.Outcome.{Outcome}
 use Rattle.definition.specs.Bus.{Ask}
 use Rattle.opcodes.specs.Instruction.{does, goes, CB-prefix, HALT, STOP, EI, LD-B-B, ILLEGAL, decode, decode_cb}
 use Rattle.opcodes.specs.Instruction as defined
-use Rattle.definition.specs.Execution.{Does, ◌>>◌, prefixed, normal, execute, executing}
+use Rattle.definition.specs.Execution.{◌>>◌, prefixed, normal, execute, executing}
 use Rattle.definition.specs.Step.{Ended}
 use Rattle.opcodes.proofs.Tested.{and_left, and_right, below, at}
 use Rattle.instruction.specs.Row.{row_of, prefixed_row}

@@ -2,7 +2,6 @@
 use Rattle.std.proofs.Common.{if◌then◌else◌}
 use mathlib.Core.Path.{◌≡◌, refl, ap, ◌∙◌}
 use mathlib.Core.Bool.{Bool, true, false}
-use mathlib.Core.List.{List}
 use Prim.Native.Nat.{ℕ}
 use Rattle.sm83.specs.declared.Cpu.{Cpu}
 use Rattle.outcome.specs.declared.Outcome.{Outcome}
@@ -13,8 +12,7 @@ use Rattle.opcodes.specs.Instruction.{Cond, c_nz, c_z, c_nc, c_c, goes, Jump, JP
 use Rattle.definition.specs.Execution.{Does, execute, executing}
 use Rattle.definition.specs.Step.{Ended}
 use Rattle.instruction.specs.Row.{condition, jump_row}
-use Rattle.bus.specs.declared.Port.{Port}
-use Rattle.bus.specs.World.{World, world, leads}
+use Rattle.bus.specs.World.{World, leads}
 use Rattle.instruction.specs.Holding.{check_cond, is_unconditional}
 use Rattle.execution.specs.Mirror.{Made, exec_row, mirroring}
 

@@ -1,6 +1,6 @@
 -- The instructions after CB: the row of 001 leads where the definition leads. A bit's number is below 8, as the decoder makes it.
-use mathlib.Core.Path.{◌≡◌, refl, ap, ◌∙◌}
-use mathlib.Core.List.{List, [], ◌∷◌}
+use mathlib.Core.Path.{◌≡◌, ap, ◌∙◌}
+use mathlib.Core.List.{[], ◌∷◌}
 use Prim.Native.Nat.{ℕ, zero, suc, ◌/◌, ◌%◌, ◌<◌}
 use native.Mathlib.Omega.{arith}
 use lib.ListN.{get_or}
@@ -12,7 +12,7 @@ use Rattle.definition.specs.Bus.{Ask}
 use Rattle.sm83.specs.State.{flags, set_f}
 use Rattle.opcodes.specs.Arithmetic.{shift_op, bit_test}
 use Rattle.opcodes.specs.Instruction.{Reg8, Shift, RLC, RRC, RL, RR, SLA, SRA, SWAP, SRL, Prefixed, SHIFT-r8, BIT-u3-r8, RES-u3-r8, SET-u3-r8, reg8, shift, decode_cb}
-use Rattle.definition.specs.Execution.{Does, ◌>>◌, into8, put8, prefixed, normal, executing}
+use Rattle.definition.specs.Execution.{◌>>◌, into8, prefixed, normal, executing}
 use Rattle.definition.specs.Step.{Ended}
 use Rattle.instruction.specs.Row.{operand8, shift_code, prefixed_row}
 use Rattle.bus.specs.World.{World, leads}

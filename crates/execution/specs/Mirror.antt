@@ -8,13 +8,12 @@ use Rattle.instruction.specs.Holding.{check_cond, is_unconditional}
 use Rattle.instruction.specs.declared.Opcode.{Opcode}
 use Rattle.instruction.specs.declared.Opcode.TheVariants as op
 use Rattle.instruction.specs.declared.Instruction.{Instruction}
-use Rattle.sm83.specs.Basics.{cleared, raised, low_byte, high_byte, next, back, signed}
-use Rattle.definition.specs.Bus.{Operand}
-use Rattle.sm83.specs.State.{pair_af, pair_bc, pair_de, pair_hl, write_a, write_f, write_sp, put_bc, put_de, put_hl, write_bc, write_de, write_hl, write_af, set_f, sp, set_pc, set_ime, set_latch, set_stopped}
+use Rattle.sm83.specs.Basics.{cleared, raised, low_byte, next, back}
+use Rattle.sm83.specs.State.{write_a, write_f, write_sp, set_pc, set_ime, set_latch, set_stopped}
 use Rattle.opcodes.specs.Arithmetic.{Result, alu_op, acc_op, shift_op, increment, decrement, bit_test, word_sum_flags, offset_flags}
 use Rattle.opcodes.specs.Instruction.{Alu, ADD, ADC, SUB, SBC, AND, XOR, OR, CP, Acc, RLCA, RRCA, RLA, RRA, DAA, CPL, SCF, CCF, Shift, RLC, RRC, RL, RR, SLA, SRA, SWAP, SRL}
 use Rattle.operands.specs.Operands.{read_operand, write_operand}
-use Rattle.definition.specs.Execution.{Does, ◌>>=◌, ◌>>◌, give, nothing, change, reg, set_reg, reg_a, reg_c, reg_f, reg_sp, reg_pc, reg_hl, load, store, idle, imm8, imm16, push, pop, high, halt, go_to, call, return}
+use Rattle.definition.specs.Execution.{Does, ◌>>=◌, ◌>>◌, give, nothing, change, reg, set_reg, reg_a, reg_f, reg_sp, reg_pc, reg_hl, idle, push, pop, halt, go_to, call, return}
 
 -- what the match of `exec_instruction` makes: the value to be written, and the outcome
 pub record Made : Type 0 where

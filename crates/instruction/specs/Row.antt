@@ -1,6 +1,5 @@
 -- The row of 001's tables for each instruction of the definition: an operation, where its operand comes from and where its result goes.
 -- "An operand whose kind `exec_instruction` doesn't need is `Implied`."
-use Rattle.std.specs.Prelude.{ℕ}
 use Rattle.instruction.specs.declared.Condition.{Condition}
 use Rattle.instruction.specs.declared.Condition.TheVariants as cn
 use Rattle.instruction.specs.declared.OperandType.{OperandType}

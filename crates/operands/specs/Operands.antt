@@ -4,7 +4,7 @@ use Rattle.instruction.specs.declared.OperandType.{OperandType}
 use Rattle.instruction.specs.declared.OperandType.TheVariants as ot
 use Rattle.sm83.specs.Basics.{low_byte, high_byte, next, back, signed}
 use Rattle.definition.specs.Bus.{Operand}
-use Rattle.sm83.specs.State.{pair_af, pair_bc, pair_de, pair_hl, write_a, write_sp, put_bc, put_de, put_hl, write_bc, write_de, write_hl, write_af}
+use Rattle.sm83.specs.State.{pair_af, pair_bc, pair_de, write_a, write_sp, put_bc, put_de, put_hl, write_bc, write_de, write_hl, write_af}
 use Rattle.definition.specs.Execution.{Does, ◌>>=◌, ◌>>◌, give, nothing, reg, set_reg, reg_a, reg_c, reg_sp, reg_hl, load, store, imm8, imm16, high}
 
 -- `read_operand`; Addr16Val16 is never read

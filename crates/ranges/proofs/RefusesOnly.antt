@@ -19,7 +19,7 @@ use Rattle.definition.specs.Bus.{Access, Fetch, Stack, Bus, Performed, run_on, b
 use Rattle.outcome.specs.declared.interrupt.NextInterrupt.{NextInterrupt}
 use Rattle.outcome.specs.declared.interrupt.NextInterrupt.TheVariants.{NonePending, Pending}
 use Rattle.sm83.specs.State.{pc, sp, flags}
-use Rattle.opcodes.specs.Instruction.{Instruction, does, goes, CB-prefix, HALT, STOP, EI, LD-B-B, ILLEGAL, decode}
+use Rattle.opcodes.specs.Instruction.{Instruction, ILLEGAL, decode}
 use Rattle.definition.specs.Execution.{execute}
 use Rattle.definition.specs.Step.{dispatched_as, enabled, fetched, instruction, Ended, ended, Admission, accepted, refused_as, admitted, step_on}
 use Rattle.outcome.specs.Numbers.{number_of}

@@ -9,7 +9,7 @@ use Rattle.sm83.specs.declared.Cpu.{Cpu}
 use Rattle.outcome.specs.declared.Outcome.TheVariants.{Normal, InfiniteLoop}
 use Rattle.definition.specs.Step.{Ended}
 use Rattle.sm83.specs.State.{pc, set_pc}
-use Rattle.definition.specs.Execution.{Does, ◌>>=◌, ◌>>◌, nothing, change, go_to, idle, push, pop, return}
+use Rattle.definition.specs.Execution.{Does, ◌>>◌, nothing, change, go_to, idle, push, pop, return}
 use Rattle.instruction.specs.declared.Condition.{Condition}
 use Rattle.bus.specs.declared.Port.{Port}
 use Rattle.bus.specs.World.{world, leads, Idles}

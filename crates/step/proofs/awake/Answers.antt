@@ -1,5 +1,4 @@
 -- Shows points 4 to 7.
-use borrow.Author.Rules.{rules}
 use Rattle.step.proofs.Stepping.{awake_dispatches, awake_runs}
 use Rattle.step.proofs.awake.Goals as goal
 

@@ -1,5 +1,4 @@
 -- Shows the step: points 1 and 2, and then the rest.
-use borrow.Author.Rules.{rules}
 use Rattle.step.proofs.Stepping.{stops, transfers}
 use Rattle.step.proofs.next_instruction.Goals as goal
 

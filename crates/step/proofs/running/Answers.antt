@@ -1,5 +1,4 @@
 -- Shows point 3 and then the rest.
-use borrow.Author.Rules.{rules}
 use Rattle.step.proofs.Stepping.{sleeps_on, steps}
 use Rattle.step.proofs.running.Goals as goal
 

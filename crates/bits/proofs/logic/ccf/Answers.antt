@@ -1,5 +1,4 @@
 -- Shows CCF: `flagged`'s answer, with C turned over.
-use borrow.Author.Rules.{rules}
 use Rattle.bits.proofs.logic.ccf.Goals as goal
 
 pub returns : goal.returns

@@ -1,5 +1,4 @@
 -- Shows CPL: `flagged`'s answer, with Z and C as they were.
-use borrow.Author.Rules.{rules}
 use Rattle.bits.proofs.logic.cpl.Goals as goal
 
 pub returns : goal.returns

@@ -1,5 +1,4 @@
 -- Shows SCF: `flagged`'s answer, with Z as it was.
-use borrow.Author.Rules.{rules}
 use Rattle.bits.proofs.logic.scf.Goals as goal
 
 pub returns : goal.returns

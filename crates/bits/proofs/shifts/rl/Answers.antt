@@ -1,5 +1,4 @@
 -- Shows the rotation through the carry, with the carry in as a bit.
-use borrow.Author.Rules.{rules}
 use Rattle.bits.proofs.shifts.rl.Goals as goal
 
 pub returns : goal.returns

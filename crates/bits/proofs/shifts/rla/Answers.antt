@@ -1,5 +1,4 @@
 -- Shows the rotation of A: that of any byte, without Z.
-use borrow.Author.Rules.{rules}
 use Rattle.bits.proofs.shifts.rla.Goals as goal
 
 pub returns : goal.returns

@@ -1,5 +1,4 @@
 -- Shows a rotation of A, which clears Z.
-use borrow.Author.Rules.{rules}
 use Rattle.bits.proofs.shifts.without_z.Goals as goal
 
 pub returns : goal.returns

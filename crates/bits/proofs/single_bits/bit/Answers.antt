@@ -1,5 +1,4 @@
 -- Shows BIT: Z from the bit, C as it was.
-use borrow.Author.Rules.{rules}
 use Rattle.bits.proofs.single_bits.bit.Goals as goal
 
 pub returns : goal.returns

@@ -1,5 +1,4 @@
 -- Shows the byte at an address: memory's answer, by one law.
-use Rattle.std.proofs.Common.{rules}
 use Rattle.bus.proofs.Parts.{byte_at}
 use Rattle.bus.proofs.access.load.Goals as goal
 

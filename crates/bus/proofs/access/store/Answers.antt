@@ -1,5 +1,4 @@
 -- Shows a byte to an address: memory's answer, by one law.
-use Rattle.std.proofs.Common.{rules}
 use Rattle.bus.proofs.Parts.{byte_to}
 use Rattle.bus.proofs.access.store.Goals as goal
 

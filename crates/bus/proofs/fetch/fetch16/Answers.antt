@@ -1,5 +1,4 @@
 -- Shows two bytes at PC: one after the other, by one law.
-use Rattle.std.proofs.Common.{rules}
 use Rattle.definition.specs.Execution.{imm8}
 use Rattle.bus.proofs.Parts.{two_bytes}
 use Rattle.bus.proofs.fetch.fetch16.Goals as goal

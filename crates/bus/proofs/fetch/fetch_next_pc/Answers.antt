@@ -1,5 +1,4 @@
 -- Shows the byte at PC and PC past it: the callees' answers, by one law.
-use Rattle.std.proofs.Common.{rules}
 use Rattle.bus.proofs.Parts.{byte_at_pc_lem}
 use Rattle.bus.proofs.fetch.fetch_next_pc.Goals as goal
 

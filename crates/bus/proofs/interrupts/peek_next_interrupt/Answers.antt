@@ -1,5 +1,4 @@
 -- Shows what peeking sees.
-use Rattle.std.proofs.Common.{rules}
 use Rattle.bus.proofs.Accesses.{has_peeked}
 use Rattle.bus.proofs.interrupts.peek_next_interrupt.Goals as goal
 

@@ -1,5 +1,5 @@
 -- Shows taking: one where there is one, by the laws of taking.
-use Rattle.std.proofs.Common.{sym, ◌∙◌, rules}
+use Rattle.std.proofs.Common.{sym, ◌∙◌}
 use Rattle.bus.proofs.Taking.{one_taken, none_taken}
 use Rattle.bus.proofs.interrupts.take_next_interrupt.Goals as goal
 

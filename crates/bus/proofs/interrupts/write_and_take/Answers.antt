@@ -1,5 +1,4 @@
 -- Shows the push that takes: the write, then the take.
-use Rattle.std.proofs.Common.{rules}
 use Rattle.bus.proofs.Accesses.{has_taken}
 use Rattle.bus.proofs.interrupts.write_and_take.Goals as goal
 

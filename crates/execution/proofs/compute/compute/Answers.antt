@@ -1,5 +1,4 @@
 -- Shows each opcode: one law for an arm that uses the bus, one for an arm that only computes, and what the arm's own callee answers.
-use borrow.Author.Rules.{rules}
 use mathlib.Core.Path.{refl}
 use Prim.Native.Nat.{ℕ}
 use Rattle.instruction.specs.declared.Opcode.{Opcode}
@@ -14,7 +13,6 @@ use Rattle.execution.proofs.compute.compute.Goals as goal
 -- what each opcode does, with the address and the operand that the match is given
 abbrev does : ℕ → ℕ → Opcode → Does Ended Made
 does at src o = compute o at src
-
 
 pub returns-in-Nop : goal.returns-in-Nop
 unfolding compute jump_made

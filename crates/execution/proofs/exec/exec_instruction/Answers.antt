@@ -1,5 +1,4 @@
 -- Shows one instruction: operand, match and result, one after another.
-use borrow.Author.Rules.{rules}
 use Rattle.execution.proofs.exec.Executing.{executed, can_read, can_write, can_compute}
 use Rattle.execution.proofs.exec.exec_instruction.Goals as goal
 

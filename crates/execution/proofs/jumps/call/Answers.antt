@@ -1,5 +1,4 @@
 -- Shows CALL where its condition holds and where not.
-use borrow.Author.Rules.{rules}
 use Rattle.execution.proofs.jumps.Jumping.{held, not_held}
 use Rattle.execution.proofs.jumps.call.Goals as goal
 

@@ -1,5 +1,4 @@
 -- Shows JP where its condition holds and where not.
-use borrow.Author.Rules.{rules}
 use Rattle.execution.proofs.jumps.Jumping.{held, not_held, jumped}
 use Rattle.execution.proofs.jumps.jp.Goals as goal
 

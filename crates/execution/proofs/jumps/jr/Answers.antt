@@ -1,5 +1,4 @@
 -- Shows JR where its condition holds and where not.
-use borrow.Author.Rules.{rules}
 use Rattle.execution.proofs.jumps.Jumping.{held, not_held, jumped_by}
 use Rattle.execution.proofs.jumps.jr.Goals as goal
 

@@ -1,5 +1,4 @@
 -- Shows RET where its condition holds and where not.
-use borrow.Author.Rules.{rules}
 use Rattle.execution.proofs.jumps.Jumping.{held, not_held, returned_if}
 use Rattle.execution.proofs.jumps.ret.Goals as goal
 

@@ -1,5 +1,4 @@
 -- Shows ADD HL: the callees' answers, by one law.
-use borrow.Author.Rules.{rules}
 use Rattle.execution.proofs.words.OnWords.{hl_added}
 use Rattle.execution.proofs.words.add_hl.Goals as goal
 

@@ -1,5 +1,4 @@
 -- Shows ADD SP: the callees' answers, by one law.
-use borrow.Author.Rules.{rules}
 use Rattle.execution.proofs.words.OnWords.{offset_added}
 use Rattle.execution.proofs.words.add_sp.Goals as goal
 

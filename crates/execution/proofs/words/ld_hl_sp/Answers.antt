@@ -1,5 +1,4 @@
 -- Shows LD HL,SP: the callees' answers, by one law.
-use borrow.Author.Rules.{rules}
 use Rattle.execution.proofs.words.OnWords.{offset_loaded}
 use Rattle.execution.proofs.words.ld_hl_sp.Goals as goal
 

@@ -1,5 +1,4 @@
 -- Shows LD SP,HL: the callees' answers, by one law.
-use borrow.Author.Rules.{rules}
 use Rattle.execution.proofs.words.OnWords.{loaded_sp}
 use Rattle.execution.proofs.words.ld_sp_hl.Goals as goal
 

@@ -1,5 +1,4 @@
 -- Shows what an entry stands for, field by field.
-use borrow.Author.Rules.{rules}
 use Rattle.instruction.specs.Entry.{row_at}
 use Rattle.instruction.proofs.Instruction.from_entry.Goals as goal
 

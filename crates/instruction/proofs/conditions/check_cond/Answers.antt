@@ -1,5 +1,4 @@
 -- Shows each condition by its flag: an arm's own condition, with Z and C as the definition reads them.
-use borrow.Author.Rules.{rules}
 use Rattle.instruction.specs.Holding.{check_cond}
 use Rattle.instruction.proofs.conditions.check_cond.Goals as goal
 

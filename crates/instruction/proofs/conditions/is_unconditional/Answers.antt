@@ -1,5 +1,4 @@
 -- Shows which condition is none.
-use borrow.Author.Rules.{rules}
 use Rattle.instruction.specs.Holding.{is_unconditional}
 use Rattle.instruction.proofs.conditions.is_unconditional.Goals as goal
 

@@ -1,5 +1,4 @@
 -- Shows the opcode at each number: one arm a line of the list, and the last for all others.
-use borrow.Author.Rules.{rules}
 use mathlib.Core.Path.{sym}
 use lib.ListN.{get_or-eq_default}
 use Rattle.instruction.specs.Entry.{opcodes}

@@ -1,5 +1,4 @@
 -- Shows each destination: one law, and what the arm's own callee leaves.
-use borrow.Author.Rules.{rules}
 use mathlib.Core.Path.{refl}
 use Prim.Native.Nat.{ℕ}
 use Rattle.sm83.specs.Basics.{low_byte}

@@ -1,5 +1,4 @@
 -- Shows a byte to where the word at PC points: one access after another.
-use borrow.Author.Rules.{rules}
 use Rattle.definition.specs.Bus.{Operand}
 use Rattle.definition.specs.Execution.{imm16, store}
 use Rattle.operands.specs.Operands.{write_operand}

@@ -1,5 +1,4 @@
 -- Shows a byte to page FF, where the byte at PC says: one access after another.
-use borrow.Author.Rules.{rules}
 use Rattle.definition.specs.Bus.{Operand}
 use Rattle.definition.specs.Execution.{imm8, store, high}
 use Rattle.operands.specs.Operands.{write_operand}

@@ -1,5 +1,4 @@
 -- Shows a word to where the word at PC points, the low byte first: the callees' answers, by one law.
-use borrow.Author.Rules.{rules}
 use Rattle.operands.specs.Operands.{write_operand}
 use Rattle.bus.proofs.Parts.{word_at_pc}
 use Rattle.operands.proofs.places.write_word_at16.Goals as goal

@@ -1,5 +1,4 @@
 -- Shows the byte that the word at PC points at: one access after another.
-use borrow.Author.Rules.{rules}
 use Rattle.definition.specs.Bus.{Operand}
 use Rattle.definition.specs.Execution.{imm16, load}
 use Rattle.operands.specs.Operands.{read_operand}

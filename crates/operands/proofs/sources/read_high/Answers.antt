@@ -1,5 +1,4 @@
 -- Shows the byte of page FF that the byte at PC names: one access after another.
-use borrow.Author.Rules.{rules}
 use Rattle.definition.specs.Bus.{Operand}
 use Rattle.definition.specs.Execution.{imm8, load, high}
 use Rattle.operands.specs.Operands.{read_operand}

@@ -1,5 +1,4 @@
 -- Shows the byte at HL, and HL moved by one: the callees' answers, by one law.
-use borrow.Author.Rules.{rules}
 use Rattle.sm83.specs.Basics.{back}
 use Rattle.operands.specs.Operands.{read_operand}
 use Rattle.bus.proofs.Parts.{byte_at_hl}

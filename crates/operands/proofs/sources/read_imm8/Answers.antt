@@ -1,5 +1,4 @@
 -- Shows the byte at PC, as a word.
-use borrow.Author.Rules.{rules}
 use Rattle.definition.specs.Execution.{imm8}
 use Rattle.operands.proofs.sources.read_imm8.Goals as goal
 

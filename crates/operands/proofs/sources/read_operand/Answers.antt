@@ -1,5 +1,4 @@
 -- Shows each operand: one law, and what the arm's own callee answers.
-use borrow.Author.Rules.{rules}
 use mathlib.Core.Path.{refl}
 use Rattle.definition.specs.Bus.{Operand}
 use Rattle.definition.specs.Execution.{load, give}

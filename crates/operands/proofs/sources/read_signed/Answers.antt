@@ -1,6 +1,4 @@
 -- Shows the byte at PC, as a signed one.
-use borrow.Author.Rules.{rules}
-use mathlib.Core.Path.{refl}
 use Rattle.definition.specs.Execution.{imm8, give}
 use Rattle.sm83.specs.Basics.{signed}
 use Rattle.operands.specs.Operands.{read_operand}

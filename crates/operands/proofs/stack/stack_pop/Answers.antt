@@ -1,5 +1,4 @@
 -- Shows a word popped, the low byte first: the callees' answers, by one law.
-use borrow.Author.Rules.{rules}
 use Rattle.bus.proofs.Parts.{popped}
 use Rattle.operands.proofs.stack.stack_pop.Goals as goal
 

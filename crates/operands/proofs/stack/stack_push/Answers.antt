@@ -1,5 +1,4 @@
 -- Shows a word pushed, the high byte first: the callees' answers, by one law.
-use borrow.Author.Rules.{rules}
 use Rattle.bus.proofs.Parts.{pushed}
 use Rattle.operands.proofs.stack.stack_push.Goals as goal
 

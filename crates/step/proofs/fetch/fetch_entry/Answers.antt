@@ -1,6 +1,4 @@
 -- Shows points 5 and 6: the latch, one byte or two, and the entry that they stand for. That registers and bytes are bytes is what their types tell.
-use borrow.Author.Rules.{rules}
-use mathlib.Core.Path.{sym, ◌∙◌}
 use native.Mathlib.Omega.{arith}
 use Rattle.instruction.specs.Entry.{Unprefixed, Prefixed}
 use Rattle.step.proofs.Fetching.{fetches_unprefixed, fetches_prefixed}
