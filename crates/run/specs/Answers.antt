@@ -5,8 +5,8 @@ use Rattle.outcome.specs.declared.Outcome.{Outcome}
 use Rattle.outcome.specs.declared.Outcome.TheVariants.{Normal}
 use Rattle.outcome.specs.declared.LastOutcome.{LastOutcome}
 use Rattle.outcome.specs.declared.LastOutcome.TheVariants.{NothingRun, Last}
-use Rattle.definition.specs.Bus.{Performed, plain, mcycles}
-use Rattle.definition.specs.Step.{Ended, step_on}
+use Rattle.definition.specs.Bus.{plain, mcycles}
+use Rattle.definition.specs.Step.{step_on}
 use Rattle.definition.specs.Run.{RunAnswer}
 use Rattle.run.specs.declared.Ran.{Ran}
 use Rattle.run.specs.declared.Stepped.{Stepped}

@@ -1,5 +1,4 @@
 -- Shows the run: refusal 1, then 2, then repeated steps.
-use borrow.Author.Rules.{rules}
 use Rattle.std.proofs.Common.{eq-eqb}
 use Rattle.std.proofs.lemmas.Bool.{ne_eqb}
 use mathlib.Core.Path.{◌∙◌}

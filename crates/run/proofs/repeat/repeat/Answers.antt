@@ -1,8 +1,7 @@
 -- Shows the loop: its invariant is that what is done so far and what is left make the run, its measure the steps left.
-use borrow.Author.Rules.{rules}
 use mathlib.Core.Path.{◌≡◌, refl, sym, subst⁻¹, ◌∙◌}
 use mathlib.Core.List.{List}
-use Prim.Native.Nat.{ℕ, ◌-◌}
+use Prim.Native.Nat.{ℕ}
 use native.Mathlib.Omega.{arith}
 use Rattle.sm83.specs.declared.Cpu.{Cpu}
 use Rattle.outcome.specs.declared.Outcome.{Outcome}
@@ -11,7 +10,7 @@ use Rattle.bus.specs.declared.Port.{Port}
 use Rattle.bus.specs.World.{behind}
 use Rattle.bus.specs.Leads.{Leads}
 use Rattle.run.proofs.Behind.{stands_behind}
-use Rattle.run.proofs.Repeating.{Going, starts, ends, stops_early, goes_on}
+use Rattle.run.proofs.Repeating.{starts, ends, stops_early, goes_on}
 use Rattle.run.proofs.repeat.repeat.Goals as goal
 
 -- the step, with its state taken apart
