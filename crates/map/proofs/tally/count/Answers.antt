@@ -29,6 +29,6 @@ loop-i-preserved c = (omega arith, one_more (starts_at c.args.marks.now) c.loop-
 
 pub returns : goal.returns
 unfolding counts_of
-returns c = 
+returns c =
     let all : c.loop-i.i ≡ length c.args.marks.now = omega arith in
     ap₂ {C = Counts} (λ (n k : ℕ). record { instructions = n; jumps = k }) (c.loop-i.invariant.1 ∙ ap (how_many _) all) (c.loop-i.invariant.2 ∙ ap (how_many _) all)
