@@ -1,5 +1,5 @@
 -- The lanes of a picture of jumps: which two arrows share a row, and the lowest lane in which no arrow shares a row with a new one.
-use Rattle.std.specs.Prelude.{Bool, true, false, not, ◌&&◌, ◌||◌, List, ℕ, zero, suc, ◌-◌, ◌+◌, eqb, ltb, get_or, length, if◌then◌else◌}
+use Rattle.std.specs.Prelude.{Bool, false, not, ◌&&◌, ◌||◌, List, ℕ, zero, suc, ◌-◌, ◌+◌, eqb, ltb, get_or, length, if◌then◌else◌}
 
 abbrev pub span_of : ℕ → ℕ → ℕ
 span_of from to = (to - from) + (from - to)

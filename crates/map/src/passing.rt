@@ -34,6 +34,7 @@ fn passes_on(mem: &[u8], first: Addr, last: Addr, marks: &mut [u8], n: usize) ->
 }
 
 // Whether the screen passes the window from first to last.
+#[tactic(auto, using(crate::proofs::passing::Lent::wrong_way, crate::proofs::passing::Lent::over_long))]
 fn would_pass(mem: &[u8], first: Addr, last: Addr) -> bool
     ensures { result ≡ would_pass mem.now first.0 last.0 }
 {

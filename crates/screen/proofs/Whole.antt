@@ -1,5 +1,5 @@
 -- The parts together: the walk and the tests after it; and the tests before them.
-use mathlib.Core.Path.{◌≡◌, refl, sym, ap, ap₂, ◌∙◌}
+use mathlib.Core.Path.{◌≡◌, refl, sym, ap, ◌∙◌}
 use mathlib.Core.List.{List, ◌∷◌, map}
 use Prim.Native.Nat.{ℕ}
 use lib.ListN.{length, replicate}

@@ -115,7 +115,8 @@ pub fn scan(mem: &[u8], first: Addr, marks: &[u8], test: Test) -> Verdict
 {
     let mut i = 0;
     while i < marks.len() {
-        if marks[i] == 1 {
+        let start = marks[i] == 1;
+        if start {
             let at = address(first, i);
             if !passes(test, mem, first, marks, at) {
                 return Verdict::RefusedAt(refusal_of(test), at);

@@ -49,6 +49,7 @@ pub fn course_of(cpu: Cpu, mem: &[u8]) -> Course
 }
 
 // "HaltBug ends here and PC goes back to its value before the fetch."
+#[tactic(auto, using(crate::proofs::course::Points::kept_there, crate::proofs::course::Points::moved_on))]
 pub fn after_fetch(cpu: Cpu) -> CpuRegisters
     ensures { result ≡ (fetched cpu).registers }
 {

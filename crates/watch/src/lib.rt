@@ -25,6 +25,7 @@ pub struct Watched {
 }
 
 // One step, watched in the window that begins at `first` and has these marks. Before a step at no marked start it ends, and nothing is done.
+#[tactic(auto, using(crate::proofs::OneStep::strayed))]
 pub fn watch(cpu: Cpu, mem: &mut [u8], first: Addr, marks: &[u8]) -> Watched
     ensures { watch_answer result mem.new ≡ watch_on cpu mem.old first.0 marks.now }
 {

@@ -1,15 +1,14 @@
 -- Whether a window passes: not if it is the wrong way round or too long; else as the screen says, whatever marks are lent, if they are as many as its bytes.
-use mathlib.Core.Path.{◌≡◌, refl, sym, ap, ◌∙◌}
-use mathlib.Core.Bool.{Bool, true, false}
+use mathlib.Core.Path.{◌≡◌, sym, ap, ◌∙◌}
+use mathlib.Core.Bool.{Bool, false}
 use mathlib.Core.Logic.{◌⊎◌, inl, inr}
 use mathlib.Core.List.{List}
-use Prim.Native.Nat.{ℕ, suc, ◌+◌, ◌-◌, ◌≤◌, ◌<◌}
+use Prim.Native.Nat.{ℕ, ◌<◌}
 use native.Mathlib.Omega.{arith}
 use lib.ListN.{length, replicate, length-replicate}
 use Rattle.routine.specs.declared.ScreenRefusal.{ScreenRefusal}
 use Rattle.routine.specs.declared.Verdict.{Verdict}
-use Rattle.routine.specs.declared.Verdict.TheVariants.{Refused}
-use Rattle.routine.specs.Screen.{Screened, verdict, longest_window, screen}
+use Rattle.routine.specs.Screen.{Screened, longest_window, screen}
 use Rattle.routine.proofs.Before.{window, Early, wrong_memory, reversed, too_long, wrong_marks, Admitted, early_or_admitted, refuses, admits}
 use Rattle.map.specs.Passing.{is_pass, would_pass}
 

@@ -1,9 +1,7 @@
 -- The walk byte by byte: one byte more leaves the same instruction to hold the byte that is asked for.
 use mathlib.Core.Path.{◌≡◌, refl, sym, ap, ◌∙◌}
-use mathlib.Core.Bool.{Bool, true, false}
 use mathlib.Core.List.{List}
 use Prim.Native.Nat.{ℕ, zero, suc, ◌+◌, ◌-◌, ◌≤◌, ◌<◌}
-use native.Mathlib.Numerals.{add-one}
 use native.Mathlib.Omega.{arith}
 use Rattle.definition.specs.Bus.{byte_at}
 use Rattle.opcodes.specs.Instruction.{decode, length_of}

@@ -29,7 +29,12 @@ some_bit m x y e f =
     five_bits (bit_and (bit_and x y) 31) (omega (arith, and_le_r (bit_and x y) 31))
     ∙ ap₂ (λ (u v : ℕ). is_pending (lowest (bit_and (bit_and u v) 31))) e f
 
--- the registers after the fetch, where HaltBug does not keep PC
+-- the registers after the fetch, where HaltBug keeps PC
+pub kept_there : (s : Cpu) (bug : Bool) → bug ≡ is_bug s.halt → bug ≡ true → s.registers ≡ (fetched s).registers
+unfolding fetched
+kept_there s bug e t = sym (ap (λ (t : Cpu). t.registers) (if_so _ _ (sym e ∙ t)))
+
+-- and where it does not
 pub moved_on : (s : Cpu) (bug : Bool) (p : ℕ) → bug ≡ is_bug s.halt → bug ≡ false → p ≡ next (pc s) → write_pc p s.registers ≡ (fetched s).registers
 unfolding fetched
 moved_on s bug p e f h = ap (λ (a : ℕ). write_pc a s.registers) h ∙ sym (ap (λ (t : Cpu). t.registers) (if_not _ _ (sym e ∙ f)))

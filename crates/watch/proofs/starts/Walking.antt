@@ -39,10 +39,10 @@ unfolding marks_from
 next_one m left a t e zero rest h = absurd (omega arith)
 next_one m zero a t e (suc n) rest h =
     let same : n ≡ rest = omega arith in
-    simp (e, turn_start (byte_at m a), same)
+    ap (λ (k : ℕ). 1 ∷ marks_from m (operands (decode (byte_at m a))) (suc a) k) same ∙ sym (ap (λ (u : Turn). u.mark ∷ marks_from m u.left (suc a) rest) (e ∙ turn_start (byte_at m a)))
 next_one m (suc k) a t e (suc n) rest h =
     let same : n ≡ rest = omega arith in
-    simp (e, turn_operand k (byte_at m a), same)
+    ap (λ (j : ℕ). 0 ∷ marks_from m k (suc a) j) same ∙ sym (ap (λ (u : Turn). u.mark ∷ marks_from m u.left (suc a) rest) (e ∙ turn_operand k (byte_at m a)))
 
 nothing_left : (m : List ℕ) (left a : ℕ) → marks_from m left a 0 ≡ []
 unfolding marks_from

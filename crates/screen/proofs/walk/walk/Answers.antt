@@ -2,6 +2,7 @@
 use mathlib.Core.Path.{◌≡◌, refl, sym, ap, ◌∙◌}
 use mathlib.Core.List.{List}
 use Prim.Native.Nat.{ℕ}
+use native.Mathlib.Omega.{arith}
 use lib.ListN.{length, replicate}
 use Rattle.routine.specs.declared.Verdict.{Verdict}
 use Rattle.routine.specs.Screen.{marks_after}
@@ -25,12 +26,12 @@ returns-then-forbidden c =
 pub returns-then-too_long : goal.returns-then-too_long
 returns-then-too_long c =
     let turn : Turn c.args.mem.now c.args.first.0 (length c.clear.new.marks) c.loop-at.at c.loop-at.marks c.address-here.result c.shape_at-shape.result c.is_forbidden-forbidden.result = record { reached = c.loop-at.invariant; more = c.loop-at-test.true; there = c.address-here.ensures; read = c.shape_at-shape.ensures; told = c.is_forbidden-forbidden.ensures } in
-    sized c.clear.auto.marks (turn_8 turn c.if-forbidden.false c.if-too_long.true c.clear-then-too_long.ensures)
+    sized c.clear.auto.marks (turn_8 turn (cc) (omega arith) c.clear-then-too_long.ensures)
 
 pub loop-at-preserved : goal.loop-at-preserved
 loop-at-preserved c =
     let turn : Turn c.args.mem.now c.args.first.0 (length c.clear.new.marks) c.loop-at.at c.loop-at.marks c.address-here.result c.shape_at-shape.result c.is_forbidden-forbidden.result = record { reached = c.loop-at.invariant; more = c.loop-at-test.true; there = c.address-here.ensures; read = c.shape_at-shape.ensures; told = c.is_forbidden-forbidden.ensures } in
-    turn_on turn c.if-forbidden.false c.if-too_long.false
+    turn_on turn (cc) (omega arith)
 
 pub returns : goal.returns
 returns c = sized c.clear.auto.marks (ended c.args.mem.now c.args.first.0 (length c.clear.new.marks) c.loop-at.invariant c.loop-at-test.false)

@@ -1,5 +1,5 @@
 -- The invariant says how far the walk has come.
-use Rattle.std.proofs.Common.{◌-◌, length}
+use Rattle.std.proofs.Common.{◌-◌}
 use Rattle.screen.proofs.walk.Reached.{Reached}
 use Rattle.screen.proofs.walk.walk.Given as goal
 

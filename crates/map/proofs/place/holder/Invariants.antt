@@ -1,0 +1,10 @@
+-- The invariant: from here on the walk comes to the same instruction as from the first address.
+use Rattle.std.proofs.Common.{◌≡◌, ◌-◌}
+use Rattle.map.specs.Place.{holder}
+use Rattle.map.proofs.place.holder.Given as goal
+
+abbrev pub invariant-loop-at : goal.invariant-loop-at
+invariant-loop-at l = holder l.mem l.first 0 l.first (l.target - l.first) ≡ holder l.mem l.walk.start l.walk.left l.at (l.target - l.at)
+
+abbrev pub decreases-loop-at : goal.decreases-loop-at
+decreases-loop-at l = l.target - l.at
