@@ -1,5 +1,5 @@
 -- The end of a command line: what it asks for, or what is wrong with it.
-use Rattle.std.specs.Prelude.{Bool, true, false, ◌||◌, ℕ, ltb}
+use Rattle.std.specs.Prelude.{◌||◌, ltb}
 use Rattle.text.specs.Page.{choose}
 use Rattle.commandline.specs.declared.grammar.Command.{Command}
 use Rattle.commandline.specs.declared.grammar.Part.{Part}

@@ -1,5 +1,5 @@
 -- What one word says. The first mistake stays.
-use Rattle.std.specs.Prelude.{Bool, true, false, not, List, ℕ, eqb, ltb, length, get_or}
+use Rattle.std.specs.Prelude.{Bool, false, not, List, ℕ, eqb, ltb, length, get_or}
 use Rattle.text.specs.Page.{choose}
 use Rattle.text.specs.declared.number.Number.{Number}
 use Rattle.text.specs.declared.number.Number.TheVariants as number
@@ -21,7 +21,6 @@ use Rattle.commandline.specs.declared.line.Mistake.{Mistake}
 use Rattle.commandline.specs.declared.line.Mistake.TheVariants.{UnknownCommand, UnknownOption, NotHere, Twice, NoValue, TooMany, UnknownPower, BadNumber, AddressTooLarge, WordTooLong}
 use Rattle.commandline.specs.declared.line.Stage.{Stage}
 use Rattle.commandline.specs.declared.line.Stage.TheVariants.{Start, Takes, Awaits, Wrong}
-use Rattle.commandline.specs.declared.given.Given.{Given}
 use Rattle.commandline.specs.declared.given.Given.TheVariants as given
 use Rattle.commandline.specs.declared.line.Line.{Line}
 use Rattle.commandline.specs.declared.take.Read.{Read}

@@ -28,9 +28,9 @@ no_x = agree _ _ 16 refl
 no_dot : (d : ℕ) → d < 16 → eqb (glyph d) 46 ≡ false
 no_dot = agree _ _ 16 refl
 
-is_digit_lem : (d : ℕ) → d < 16 → is_digit true (digit_of (glyph d)) ≡ true
+glyph_is_digit : (d : ℕ) → d < 16 → is_digit true (digit_of (glyph d)) ≡ true
 unfolding digit_of
-is_digit_lem = agree _ _ 16 refl
+glyph_is_digit = agree _ _ 16 refl
 
 -- it is read as what it was written for
 abbrev read_digit : ℕ → Digit
@@ -66,7 +66,7 @@ module _ (x y z w : ℕ) (hx : x < 16) (hy : y < 16) (hz : z < 16) (hw : w < 16)
 
   digits : all_digits true four ≡ true
   unfolding all_digits
-  digits = simp (is_digit_lem x hx, is_digit_lem y hy, is_digit_lem z hz, is_digit_lem w hw)
+  digits = simp (glyph_is_digit x hx, glyph_is_digit y hy, glyph_is_digit z hz, glyph_is_digit w hw)
 
   first : read_byte Prefix (glyph x) ≡ Hex x
   unfolding read_byte

@@ -67,10 +67,10 @@ small_by false before b above control =
     absurd (omega arith)
 
 -- what follows a code or a byte goes by whether the byte is C2
-abbrev Goes_on : ℕ → List ℕ → Type 0
-Goes_on b rest = (q : ℕ) → eqb q 194 ≡ eqb b 194 → tame q rest ≡ true
+abbrev GoesOn : ℕ → List ℕ → Type 0
+GoesOn b rest = (q : ℕ) → eqb q 194 ≡ eqb b 194 → tame q rest ≡ true
 
-code_tame : (before b : ℕ) (rest : List ℕ) → b < 160 → Goes_on b rest → tame before (coded b ++ rest) ≡ true
+code_tame : (before b : ℕ) (rest : List ℕ) → b < 160 → GoesOn b rest → tame before (coded b ++ rest) ≡ true
 code_tame before b rest small goes_on =
     let high = digit (b / 16) (omega arith) in
     let low = digit (b % 16) (omega arith) in
@@ -79,7 +79,7 @@ code_tame before b rest small goes_on =
     let last = calm (glyph (b / 16)) (glyph (b % 16)) rest (by_lead (glyph (b / 16)) 0 (glyph (b % 16)) (no_lead (b / 16) (omega arith)) ∙ low) tail in
     calm before 92 _ (slash before) (calm 92 120 _ letter (calm 120 (glyph (b / 16)) _ (by_lead 120 0 (glyph (b / 16)) refl ∙ high) last))
 
-byte_tame : (t : Bool) (p before b : ℕ) (rest : List ℕ) → obeyed before b ≡ t → eqb p 194 ≡ eqb before 194 → Goes_on b rest → tame p (shown_byte before b ++ rest) ≡ true
+byte_tame : (t : Bool) (p before b : ℕ) (rest : List ℕ) → obeyed before b ≡ t → eqb p 194 ≡ eqb before 194 → GoesOn b rest → tame p (shown_byte before b ++ rest) ≡ true
 unfolding shown_byte
 byte_tame true p before b rest control same goes_on =
     ap (λ (t : Bool). tame p (choose t (coded b) (b ∷ []) ++ rest)) control ∙ code_tame p b rest (small_by (ltb b 160) before b refl control) goes_on
