@@ -10,50 +10,68 @@ mod told;
 mod windows;
 
 use crate::report::report;
-use libc::{STDERR_FILENO, STDOUT_FILENO};
 use rounds::replay;
+use said::{note, say, say_number};
+use std::fs::File;
+use std::io::Read;
+use std::{env, io};
 
-fn replay_file(file: &[u8]) {
+fn replay_file(rt: &HostRuntime, file: &[u8]) {
     let mut mem = [0u8; 131072];
     let mut other = [0u8; 131072];
     let mut counts = [0u32; 1536];
-    let differ = replay(file, &mut mem, &mut other, &mut counts);
-    report(&counts);
-    io::write_all(STDOUT_FILENO, b"differ ");
-    io::print_decimal(STDOUT_FILENO, differ as u64);
-    io::write_all(STDOUT_FILENO, b"\n");
+    let differ = replay(rt, file, &mut mem, &mut other, &mut counts);
+    report(rt, &counts);
+    say(rt, b"differ ");
+    say_number(rt, differ as u64);
+    say(rt, b"\n");
 }
 
-fn replay_front(room: &[u8], n: usize) {
+fn replay_front(rt: &HostRuntime, room: &[u8], n: usize) {
     if n < room.len() {
-        replay_file(&room[..n]);
+        replay_file(rt, &room[..n]);
     } else {
-        io::write_all(
-            STDERR_FILENO,
+        note(
+            rt,
             b"replay: the sample is longer than 1,048,575 bytes: nothing was replayed\n",
         );
     }
 }
 
-// A file that fills the room may go on behind it, and is not replayed.
-fn replay_from(fd: i32, room: &mut [u8; 1048576]) {
-    let n = io::read_full(fd, room);
-    replay_front(room, n);
+// Until the room is filled, or nothing comes.
+fn read_full(file: &mut File, room: &mut [u8]) -> io::Result<usize> {
+    let mut done = 0;
+    while done < room.len() {
+        let n = file.read(&mut room[done..])?;
+        if n == 0 {
+            return Ok(done);
+        }
+        done += n;
+    }
+    Ok(done)
 }
 
-fn main() {
-    let mut path = io::buffer();
-    let n = os::arg(1, &mut path);
-    if os::errno() != 0 {
-        io::write_all(STDERR_FILENO, b"replay: name the sample: replay FILE\n");
-        return;
-    }
-    let fd = os::open_read(&path[..n]);
-    if fd < 0 {
-        os::fail(&path[..n]);
-        return;
-    }
+// A file that fills the room may go on behind it, and is not replayed.
+fn replay_from(rt: &HostRuntime, file: &mut File, room: &mut [u8; 1048576]) -> io::Result<()> {
+    let n = read_full(file, room)?;
+    replay_front(rt, room, n);
+    Ok(())
+}
+
+fn main(rt: HostRuntime) -> io::Result<()> {
+    let path = match env::args(&rt)?.nth(1) {
+        Some(path) => path,
+        None => {
+            note(&rt, b"replay: name the sample: replay FILE\n");
+            return Ok(());
+        }
+    };
+    let mut file = match File::open(&rt, path.as_str()) {
+        Ok(file) => file,
+        Err(e) => {
+            return eprintln!(rt; "{path}: {e}");
+        }
+    };
     let mut room = [0u8; 1048576];
-    replay_from(fd, &mut room);
-    libc::close(fd);
+    replay_from(&rt, &mut file, &mut room)
 }

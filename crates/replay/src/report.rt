@@ -3,7 +3,7 @@ ghost use Rattle.std.specs.Prelude.{◌≡◌};
 ghost use Rattle.records.specs.Notes.{kinds};
 ghost use Rattle.replay.specs.Met.{met};
 
-use libc::STDOUT_FILENO;
+use crate::said::{say, say_number};
 use records::notes::{HALTS, KINDS, OUTCOMES, VERDICTS};
 use text::lines::line_of;
 
@@ -13,11 +13,11 @@ fn long(n: u32) -> u64
     n as u64
 }
 
-fn line(name: &[u8], mark: &[u8], n: u32) {
-    io::write_all(STDOUT_FILENO, name);
-    io::write_all(STDOUT_FILENO, mark);
-    io::print_decimal(STDOUT_FILENO, long(n));
-    io::write_all(STDOUT_FILENO, b"\n");
+fn line(rt: &HostRuntime, name: &[u8], mark: &[u8], n: u32) {
+    say(rt, name);
+    say(rt, mark);
+    say_number(rt, long(n));
+    say(rt, b"\n");
 }
 
 // How many opcodes were met: their counts stand in front of all others.
@@ -36,20 +36,28 @@ fn opcodes_met(counts: &[u32; 1536]) -> u32
 }
 
 // A name that is empty has no count.
-fn named(name: &[u8], mark: &[u8], counts: &[u32; 1536], place: usize) {
+fn named(rt: &HostRuntime, name: &[u8], mark: &[u8], counts: &[u32; 1536], place: usize) {
     if name.len() == 0 {
         return;
     }
     if place < 1536 {
-        line(name, mark, counts[place]);
+        line(rt, name, mark, counts[place]);
     }
 }
 
 // Line n of the names belongs to the count at from + n.
-fn counted(names: &[u8], many: usize, mark: &[u8], counts: &[u32; 1536], from: usize) {
+fn counted(
+    rt: &HostRuntime,
+    names: &[u8],
+    many: usize,
+    mark: &[u8],
+    counts: &[u32; 1536],
+    from: usize,
+) {
     let mut n: usize = 0;
     while n < many {
         named(
+            rt,
             line_of(names, n),
             mark,
             counts,
@@ -59,8 +67,9 @@ fn counted(names: &[u8], many: usize, mark: &[u8], counts: &[u32; 1536], from: u
     }
 }
 
-fn report_outcomes(counts: &[u32; 1536]) {
+fn report_outcomes(rt: &HostRuntime, counts: &[u32; 1536]) {
     counted(
+        rt,
         b"outcome Normal
 outcome InfiniteLoop
 outcome Halting
@@ -88,8 +97,9 @@ outcome refusal 3",
     );
 }
 
-fn report_verdicts(counts: &[u32; 1536]) {
+fn report_verdicts(rt: &HostRuntime, counts: &[u32; 1536]) {
     counted(
+        rt,
         b"verdict passes
 verdict 1
 
@@ -108,10 +118,11 @@ verdict 10",
     );
 }
 
-pub fn report(counts: &[u32; 1536]) {
-    counted(b"steps\nruns\nwindows", 3, b" ", counts, KINDS);
-    line(b"opcodes met, of 512", b": ", opcodes_met(counts));
+pub fn report(rt: &HostRuntime, counts: &[u32; 1536]) {
+    counted(rt, b"steps\nruns\nwindows", 3, b" ", counts, KINDS);
+    line(rt, b"opcodes met, of 512", b": ", opcodes_met(counts));
     counted(
+        rt,
         b"from NotHalting
 from HaltRunInterrupt
 from HaltNoRunInterrupt
@@ -121,6 +132,6 @@ from HaltBug",
         counts,
         HALTS,
     );
-    report_outcomes(counts);
-    report_verdicts(counts);
+    report_outcomes(rt, counts);
+    report_verdicts(rt, counts);
 }

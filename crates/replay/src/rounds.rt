@@ -13,6 +13,7 @@ use records::notes::note;
 
 // 1 if the core does not agree with the record, which is then named.
 fn round(
+    rt: &HostRuntime,
     item: &[u8],
     before: usize,
     at: usize,
@@ -24,17 +25,18 @@ fn round(
 {
     note(item, mem, counts);
     let same = agrees(item, mem, other);
-    say_row(item, same);
+    say_row(rt, item, same);
     let one = one_unless(same);
     if same {
         return one;
     }
-    say_differs(before, at);
+    say_differs(rt, before, at);
     one
 }
 
 // How many records the core does not agree with. A record that is cut short, and a rest behind the last one, count as one.
 pub fn replay(
+    rt: &HostRuntime,
     file: &[u8],
     mem: &mut [u8; 131072],
     other: &mut [u8; 131072],
@@ -43,7 +45,7 @@ pub fn replay(
     ensures { result ≡ differs file.now }
 {
     if file.len() < 2 {
-        say_short();
+        say_short(rt);
         return 1;
     }
     let count = word_at(file, 0) as usize;
@@ -53,17 +55,17 @@ pub fn replay(
     while i < count {
         let size = front_size(file, at);
         if size == 0 {
-            say_cut(i, at);
+            say_cut(rt, i, at);
             return differ + 1;
         }
         let end = at + size;
-        let one = round(&file[at..end], i, at, mem, other, counts);
+        let one = round(rt, &file[at..end], i, at, mem, other, counts);
         differ += one;
         at = end;
         i += 1;
     }
     if at < file.len() {
-        say_rest(at);
+        say_rest(rt, at);
         return differ + 1;
     }
     differ

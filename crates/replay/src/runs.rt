@@ -35,7 +35,7 @@ fn compare(item: &[u8], mem: &mut [u8], want: &mut [u8]) -> bool
     lay(item, BYTES, want);
     patch(item, from, count, want);
     let mut state = [0u8; STATE_LENGTH];
-    bytes::copy(&item[STATE..AFTER], &mut state);
+    state.copy_from_slice(&item[STATE..AFTER]);
     let mut answer = [0u8; ANSWER_LENGTH];
     let number = ask(
         item[KIND],

@@ -1,22 +1,36 @@
 // What a replay says as it goes: of a record with a name, of a record that differs, and of a sample that is not whole.
-use libc::STDOUT_FILENO;
 use records::layout::{NAME_LENGTH, wide};
+use std::io::Write;
 
-fn say(words: &[u8], number: usize) {
-    io::write_all(STDOUT_FILENO, words);
-    io::print_decimal(STDOUT_FILENO, number as u64);
+// What standard output does not take is lost.
+pub fn say(rt: &HostRuntime, words: &[u8]) {
+    rt.stdout().write_all(words).is_ok();
 }
 
-fn say_result(same: bool) {
+pub fn say_number(rt: &HostRuntime, number: u64) {
+    print!(rt; "{number}").is_ok();
+}
+
+// The same on standard error.
+pub fn note(rt: &HostRuntime, words: &[u8]) {
+    rt.stderr().write_all(words).is_ok();
+}
+
+fn say_with(rt: &HostRuntime, words: &[u8], number: usize) {
+    say(rt, words);
+    say_number(rt, number as u64);
+}
+
+fn say_result(rt: &HostRuntime, same: bool) {
     if same {
-        io::write_all(STDOUT_FILENO, b": ok\n");
+        say(rt, b": ok\n");
     } else {
-        io::write_all(STDOUT_FILENO, b": DIFFERS\n");
+        say(rt, b": DIFFERS\n");
     }
 }
 
 // A record with a name is a row of the document, or of docs/DIFFERENCES.md; the name stands at its end.
-pub fn say_row(item: &[u8], same: bool) {
+pub fn say_row(rt: &HostRuntime, item: &[u8], same: bool) {
     if item.len() <= NAME_LENGTH {
         return;
     }
@@ -26,42 +40,39 @@ pub fn say_row(item: &[u8], same: bool) {
     }
     if n <= item.len() {
         let from = item.len() - n;
-        io::write_all(STDOUT_FILENO, b"row ");
-        io::write_all(STDOUT_FILENO, &item[from..]);
-        say_result(same);
+        say(rt, b"row ");
+        say(rt, &item[from..]);
+        say_result(rt, same);
     }
 }
 
-pub fn say_short() {
-    io::write_all(
-        STDOUT_FILENO,
+pub fn say_short(rt: &HostRuntime) {
+    say(
+        rt,
         b"the sample is shorter than 2 bytes: make it again with oracle/sample\n",
     );
 }
 
-pub fn say_cut(before: usize, at: usize) {
-    say(b"no whole record at byte ", at);
-    say(b", after record ", before);
-    io::write_all(
-        STDOUT_FILENO,
+pub fn say_cut(rt: &HostRuntime, before: usize, at: usize) {
+    say_with(rt, b"no whole record at byte ", at);
+    say_with(rt, b", after record ", before);
+    say(
+        rt,
         b": the sample is cut short; make it again with oracle/sample\n",
     );
 }
 
-pub fn say_rest(at: usize) {
-    say(b"the last record ends at byte ", at);
-    io::write_all(
-        STDOUT_FILENO,
+pub fn say_rest(rt: &HostRuntime, at: usize) {
+    say_with(rt, b"the last record ends at byte ", at);
+    say(
+        rt,
         b", but the sample goes on: make it again with oracle/sample\n",
     );
 }
 
 // Records are numbered from 1, as `oracle/sample --show` numbers them.
-pub fn say_differs(before: usize, at: usize) {
-    say(b"record ", std::num::wrapping_add_usize(before, 1));
-    say(b", at byte ", at);
-    io::write_all(
-        STDOUT_FILENO,
-        b", DIFFERS: see it with oracle/sample --show\n",
-    );
+pub fn say_differs(rt: &HostRuntime, before: usize, at: usize) {
+    say_with(rt, b"record ", std::num::wrapping_add_usize(before, 1));
+    say_with(rt, b", at byte ", at);
+    say(rt, b", DIFFERS: see it with oracle/sample --show\n");
 }

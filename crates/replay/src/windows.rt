@@ -21,7 +21,7 @@ fn compare(item: &[u8], mem: &mut [u8], marks: &mut [u8]) -> bool
     let middle = MARKS + n;
     let end = MARKS + 2 * n;
     lay(item, end, mem);
-    bytes::copy(&item[MARKS..middle], marks);
+    marks.copy_from_slice(&item[MARKS..middle]);
     let mut answer = [0u8; VERDICT_LENGTH];
     let number = screen_blocks(
         mem,

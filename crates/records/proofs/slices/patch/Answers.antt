@@ -1,5 +1,5 @@
 -- Shows that each turn puts the next triple, and that after the last one nothing is left.
-use Rattle.std.proofs.Common.{◌≡◌, ℕ, length, sym, refl, ap, ◌∙◌, arith, length-set}
+use Rattle.std.proofs.Common.{◌≡◌, length, sym, refl, ap, ◌∙◌, arith, length-set}
 use Rattle.records.proofs.Patching.{patch_none, patch_turn}
 use Rattle.records.proofs.slices.patch.Goals as goal
 
