@@ -138,7 +138,7 @@ pub fn version(host: &Host) {
         host,
         b"phk, of Phkarotuk: an SM83 processor whose every function is proved, from mizu-core 1.3.0 (MIT)
 rules: docs/01-scope.md, An SM83 processor on plain memory; it has no version number, its SHA-256 begins 031bd0daa6e4
-proved with: rattle-kit-5b logic 064da1ca440f63e7
+proved with: rattle-kit-13f logic dac8208d650f15bf
 ",
     );
 }
