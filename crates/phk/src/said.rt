@@ -110,6 +110,7 @@ pub fn status_of(refusal: u8) -> u8
     if none { DONE } else { REFUSED }
 }
 
+#[tactic(auto, unfolding(crate::specs::Status::stands))]
 fn stands(word: &[u8], i: usize, b: u8) -> bool
     ensures { result ≡ stands word.now i b }
 {
