@@ -1,5 +1,5 @@
 -- Shows that the loop ends: the rows that are left.
-use Rattle.std.proofs.Common.{◌-◌, ◌≡◌, ℕ, ◌+◌, ◌*◌, ◌<◌, ◌≤◌, length}
+use Rattle.std.proofs.Common.{◌-◌}
 use Rattle.phk.proofs.arrows.print_rows.Given as goal
 
 abbrev pub decreases-loop-i : goal.decreases-loop-i

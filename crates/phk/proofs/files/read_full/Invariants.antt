@@ -1,7 +1,5 @@
 -- Shows that the loop ends: the bytes that are left to fill; memory is as long as before.
-use Rattle.std.proofs.Common.{length, ◌-◌, ◌≡◌, ℕ, ◌+◌, ◌*◌, ◌<◌, ◌≤◌}
-use Rattle.phk.specs.Counts.{IsPrefixLen}
-use Rattle.phk.specs.Images.{image_of, is_loaded}
+use Rattle.std.proofs.Common.{length, ◌-◌, ◌≡◌, ◌≤◌}
 use Rattle.phk.proofs.files.read_full.Given as goal
 
 abbrev pub invariant-loop-done : goal.invariant-loop-done

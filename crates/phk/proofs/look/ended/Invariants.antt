@@ -1,6 +1,5 @@
 -- Shows that the loop ends: the bytes that are left; the array keeps its length.
-use Rattle.std.proofs.Common.{length, ◌-◌, ◌≡◌, ◌<◌, ℕ, ◌+◌, ◌*◌, ◌≤◌}
-use Rattle.phk.specs.Looking.{Ended, kept_of}
+use Rattle.std.proofs.Common.{length, ◌-◌, ◌≡◌}
 use Rattle.phk.proofs.look.ended.Given as goal
 
 abbrev pub invariant-loop-i : goal.invariant-loop-i

@@ -1,6 +1,5 @@
 -- Shows that the loop ends: the bytes that are left.
-use Rattle.std.proofs.Common.{◌-◌, ◌≡◌, ◌<◌, ℕ, ◌+◌, ◌*◌, ◌≤◌, length}
-use Rattle.phk.specs.Looking.{Ended, kept_of}
+use Rattle.std.proofs.Common.{◌-◌, ◌≤◌}
 use Rattle.phk.proofs.look.length_of.Given as goal
 
 abbrev pub invariant-loop-i : goal.invariant-loop-i

@@ -1,6 +1,5 @@
 -- Shows that the loop ends: the bytes that are left.
-use Rattle.std.proofs.Common.{length, ◌-◌, ◌≡◌, min, ℕ, ◌+◌, ◌*◌, ◌<◌, ◌≤◌}
-use Rattle.phk.specs.Counts.{IsPrefixLen}
+use Rattle.std.proofs.Common.{length, ◌-◌, ◌≤◌}
 use Rattle.phk.proofs.page.words_in.Given as goal
 
 abbrev pub invariant-loop-i : goal.invariant-loop-i

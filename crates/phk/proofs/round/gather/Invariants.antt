@@ -1,5 +1,5 @@
 -- Shows that the loop ends: the steps that are left; the lists are as long as before.
-use Rattle.std.proofs.Common.{◌≡◌, slice_index, ℕ, ◌+◌, ◌-◌, ◌*◌, ◌<◌, ◌≤◌, length}
+use Rattle.std.proofs.Common.{◌≡◌, ◌≤◌, length}
 use Rattle.phk.proofs.round.gather.Given as goal
 
 abbrev pub invariant-loop-i : goal.invariant-loop-i

@@ -1,7 +1,5 @@
 -- Shows that the loop ends: the bytes that are left.
-use Rattle.std.proofs.Common.{length, ◌-◌, ◌≡◌, ℕ, ◌+◌, ◌*◌, ◌<◌, ◌≤◌}
-use Rattle.routine.specs.Screen.{screen}
-use Rattle.phk.specs.Window.{verdict_on, status_of_verdict, is_mark, behind, next_column}
+use Rattle.std.proofs.Common.{length, ◌-◌}
 use Rattle.phk.proofs.screening.print_cells.Given as goal
 
 abbrev pub decreases-loop-i : goal.decreases-loop-i

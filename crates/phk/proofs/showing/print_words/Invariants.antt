@@ -1,6 +1,4 @@
 -- Shows that the loop ends: the words that are left.
-use Rattle.std.proofs.Common.{◌≡◌, ℕ, ◌+◌, ◌-◌, ◌*◌, ◌<◌, ◌≤◌, length}
-use Rattle.phk.specs.Shown.{at_most, next_of16}
 use Rattle.phk.proofs.showing.print_words.Given as goal
 
 abbrev pub decreases-loop-left : goal.decreases-loop-left

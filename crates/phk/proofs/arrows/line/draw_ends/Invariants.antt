@@ -1,5 +1,5 @@
 -- Shows that the loop ends: the slots that are left; the line is as long as before.
-use Rattle.std.proofs.Common.{◌-◌, ◌≡◌, ◌+◌, ◌*◌, ℕ, ◌<◌, ◌≤◌, length}
+use Rattle.std.proofs.Common.{◌-◌, ◌≡◌, length}
 use Rattle.phk.proofs.arrows.line.draw_ends.Given as goal
 
 abbrev pub invariant-loop-k : goal.invariant-loop-k

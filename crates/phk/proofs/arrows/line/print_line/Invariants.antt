@@ -1,5 +1,5 @@
 -- Shows that the loop ends: the columns that are left.
-use Rattle.std.proofs.Common.{length, ◌-◌, ◌≡◌, ◌+◌, ◌*◌, ℕ, ◌<◌, ◌≤◌, ℤ, pos, ◌+ℤ◌, ◌-ℤ◌, ◌*ℤ◌, ◌≤ℤ◌, ◌<ℤ◌, FitsSigned, to_z, of_z}
+use Rattle.std.proofs.Common.{length, ◌-◌}
 use Rattle.phk.proofs.arrows.line.print_line.Given as goal
 
 abbrev pub decreases-loop-i : goal.decreases-loop-i

@@ -1,5 +1,5 @@
 -- Shows that the loop ends: the spans that are left; there are as many lanes as before.
-use Rattle.std.proofs.Common.{◌-◌, ◌≡◌, ℕ, ◌+◌, ◌*◌, ◌<◌, ◌≤◌, length}
+use Rattle.std.proofs.Common.{◌-◌, ◌≡◌, length}
 use Rattle.phk.proofs.arrows.slots.find_all_lanes.Given as goal
 
 abbrev pub invariant-loop-span : goal.invariant-loop-span

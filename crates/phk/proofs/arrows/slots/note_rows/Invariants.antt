@@ -1,5 +1,5 @@
 -- Shows that the loop ends: the bytes that are left; there are as many slots as before.
-use Rattle.std.proofs.Common.{length, ◌-◌, ◌≡◌, ℕ, ◌+◌, ◌*◌, ◌<◌, ◌≤◌}
+use Rattle.std.proofs.Common.{length, ◌-◌, ◌≡◌}
 use Rattle.phk.proofs.arrows.slots.note_rows.Given as goal
 
 abbrev pub invariant-loop-i : goal.invariant-loop-i
