@@ -5,7 +5,7 @@ use Rattle.outcome.specs.declared.LastOutcome.{LastOutcome}
 use Rattle.outcome.specs.declared.LastOutcome.TheVariants.{NothingRun, Last}
 use Rattle.definition.specs.Bus.{plain}
 use Rattle.definition.specs.Run.{stops_last, RunAnswer, run_for}
-use Rattle.definition.proofs.Split.{followed_by, then_run}
+use Rattle.definition.proofs.Split.{followed_by}
 use Rattle.ranges.proofs.RunPieces.{run_in_two_plain}
 use Rattle.run.specs.declared.Ran.{Ran}
 use Rattle.run.specs.Answers.{run_answer}

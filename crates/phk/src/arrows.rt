@@ -3,6 +3,8 @@
 //   <      an arrow ends here, at the instruction's start      <!  or inside the instruction, where nothing starts
 //   --     a jump with a condition, == one without; + is its end of the lane, . or ' the end where it goes, @ both in one row
 //   -> =>  a jump that leaves the window, or that found no free lane
+use crate::said::Host;
+
 mod line;
 mod slots;
 
@@ -18,14 +20,14 @@ use screen::LONGEST_WINDOW;
 use sm83::Addr;
 
 // Where the jump at an address goes, in place of an arrow.
-fn print_target(mem: &[u8], a: u16) {
+fn print_target(host: &Host, mem: &[u8], a: u16) {
     match target_at(mem, Addr(a)) {
         Target::Nowhere => {}
         Target::To(target) => {
             if jumps_always(byte(mem, a)) {
-                print_short(1, b"  => #", &[target.0 as u64], b"");
+                print_short(host, 1, b"  => #", &[target.0 as u64], b"");
             } else {
-                print_short(1, b"  -> #", &[target.0 as u64], b"");
+                print_short(host, 1, b"  -> #", &[target.0 as u64], b"");
             }
         }
     }
@@ -33,6 +35,7 @@ fn print_target(mem: &[u8], a: u16) {
 
 // An instruction with the lane of its jump; so many bytes of the window are left from it on.
 fn print_row(
+    host: &Host,
     mem: &[u8],
     first: u16,
     froms: &[u16],
@@ -50,15 +53,16 @@ fn print_row(
     draw_start(mem, a, &mut line, lane, count);
     draw_arrows(mem, first, &mut line, froms, tos, lanes, row, count);
     if lane == NO_LANE {
-        print_line(&line, BYTES);
-        print_target(mem, a);
+        print_line(host, &line, BYTES);
+        print_target(host, mem, a);
     } else {
-        print_line(&line, 0);
+        print_line(host, &line, 0);
     }
-    crate::page::out(b"\n");
+    crate::page::out(host, b"\n");
 }
 
 fn print_row_if(
+    host: &Host,
     mem: &[u8],
     first: u16,
     froms: &[u16],
@@ -71,14 +75,17 @@ fn print_row_if(
 ) {
     if kind == 3 {
         let lane = lane_at(lanes, (row / 2) as usize);
-        print_row(mem, first, froms, tos, lanes, row, lane, left, count);
+        print_row(host, mem, first, froms, tos, lanes, row, lane, left, count);
     }
     if kind == 1 {
-        print_row(mem, first, froms, tos, lanes, row, NO_JUMP, left, count);
+        print_row(
+            host, mem, first, froms, tos, lanes, row, NO_JUMP, left, count,
+        );
     }
 }
 
 fn print_rows(
+    host: &Host,
     mem: &[u8],
     first: u16,
     kinds: &[u8],
@@ -91,6 +98,7 @@ fn print_rows(
     let mut i = 0;
     while i < n {
         print_row_if(
+            host,
             mem,
             first,
             froms,
@@ -105,7 +113,7 @@ fn print_rows(
     }
 }
 
-fn print_picture(mem: &[u8], first: u16, kinds: &mut [u8], count: u8) {
+fn print_picture(host: &Host, mem: &[u8], first: u16, kinds: &mut [u8], count: u8) {
     let mut froms = [0u16; SLOTS];
     let mut tos = [0u16; SLOTS];
     let mut lanes = [NO_JUMP; SLOTS];
@@ -114,20 +122,21 @@ fn print_picture(mem: &[u8], first: u16, kinds: &mut [u8], count: u8) {
     draw(mem, Addr(first), Verdict::Passes, kinds);
     note_rows(mem, first, last, kinds, &mut froms, &mut tos, &mut lanes);
     find_all_lanes(&froms, &tos, &mut lanes, n, count);
-    print_rows(mem, first, kinds, &froms, &tos, &lanes, count);
+    print_rows(host, mem, first, kinds, &froms, &tos, &lanes, count);
 }
 
 // Of a window that is not too long for the screen; no line is longer than 100 columns if it may be wide, and else than 80.
-pub fn arrows(mem: &[u8], first: u16, length: usize, wide: bool) {
+pub fn arrows(host: &Host, mem: &[u8], first: u16, length: usize, wide: bool) {
     let mut kinds = [0u8; LONGEST_WINDOW];
     let n = within(&kinds, length);
     let count = if wide { 36 } else { 26 };
-    print_picture(mem, first, &mut kinds[..n], count);
+    print_picture(host, mem, first, &mut kinds[..n], count);
 }
 
 // What the signs mean.
-pub fn legend() {
+pub fn legend(host: &Host) {
     crate::page::out(
+        host,
         b"<- lands here  <! inside it  -+ jumps if  =+ jumps  @ to itself  -> => no arrow\n",
     );
 }

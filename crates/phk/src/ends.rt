@@ -4,7 +4,7 @@ ghost use Rattle.phk.specs.Status.{bad_file, refusal_in, refusal_of, status_for,
 
 use crate::far::{Cut, Far};
 use crate::said;
-use crate::said::status_of;
+use crate::said::{Host, status_of};
 use crate::sentences::{after, byte};
 use commandline::grammar::Part;
 use commandline::line::Line;
@@ -51,60 +51,60 @@ pub fn end_status(cut: Cut, last: LastOutcome) -> u8
 }
 
 // How a run ended that was not cut: by a refusal, by itself, or because no more steps were asked for.
-fn print_last(last: LastOutcome, at: u16, mem: &[u8], budget: u64, pcs: &[u64]) {
+fn print_last(host: &Host, last: LastOutcome, at: u16, mem: &[u8], budget: u64, pcs: &[u64]) {
     let refusal = refusal_of(last);
     if refusal != 0 {
-        crate::sentences::refused_at(mem, refusal, at);
+        crate::sentences::refused_at(host, mem, refusal, at);
         return;
     }
     let number = last.number();
     let goes_on = (number == 0) & (1 < budget);
     if goes_on {
-        crate::sentences::limit(budget);
-        crate::round::going_round(budget, pcs);
+        crate::sentences::limit(host, budget);
+        crate::round::going_round(host, budget, pcs);
     } else {
-        crate::sentences::ended(number);
+        crate::sentences::ended(host, number);
     }
 }
 
-pub fn print_end(far: Far, mem: &[u8], budget: u64, pcs: &[u64]) {
+pub fn print_end(host: &Host, far: Far, mem: &[u8], budget: u64, pcs: &[u64]) {
     let cpu = far.cpu;
     let registers = cpu.registers;
     let pc = registers.pc;
     let last = far.last;
     let cut = far.cut;
     match cut {
-        Cut::Not => print_last(last, pc.0, mem, budget, pcs),
+        Cut::Not => print_last(host, last, pc.0, mem, budget, pcs),
         Cut::Lost => {}
-        Cut::ByHand => crate::sentences::stopped_by_hand(),
-        Cut::Outside => crate::sentences::left_the_image(pc.0),
+        Cut::ByHand => crate::sentences::stopped_by_hand(host),
+        Cut::Outside => crate::sentences::left_the_image(host, pc.0),
     }
-    crate::sentences::report(far.steps, far.cycles, registers);
-    crate::sentences::interrupts(cpu.ime, cpu.latch);
+    crate::sentences::report(host, far.steps, far.cycles, registers);
+    crate::sentences::interrupts(host, cpu.ime, cpu.latch);
 }
 
-fn print_change(old: &[u8], mem: &[u8], a: u16) {
+fn print_change(host: &Host, old: &[u8], mem: &[u8], a: u16) {
     let before = byte(old, a);
     let now = byte(mem, a);
     if before != now {
-        crate::sentences::change(a, before, now);
+        crate::sentences::change(host, a, before, now);
     }
 }
 
-fn print_changes(old: &[u8], mem: &[u8]) {
+fn print_changes(host: &Host, old: &[u8], mem: &[u8]) {
     let mut left: u32 = 65536;
     let mut a: u16 = 0;
     while 0 < left {
-        print_change(old, mem, a);
+        print_change(host, old, mem, a);
         a = after(a, 1);
         left = left - 1;
     }
 }
 
-pub fn print_all_changes(old: &[u8], mem: &[u8]) {
-    print_changes(old, mem);
+pub fn print_all_changes(host: &Host, old: &[u8], mem: &[u8]) {
+    print_changes(host, old, mem);
     if same(old, mem) {
-        crate::sentences::no_change();
+        crate::sentences::no_change(host);
     }
 }
 
@@ -128,34 +128,35 @@ fn keeps_file(cut: Cut) -> bool
 }
 
 // The memory as it stands at the end, if --out was given.
-pub fn saved(line: Line, mem: &[u8], cut: Cut, status: u8) -> u8
+pub fn saved(host: &Host, line: Line, mem: &[u8], cut: Cut, status: u8) -> u8
     ensures { (result ≢ bad_file) → result ≡ status }
 {
     if line.has(Part::Out) & keeps_file(cut) {
-        let saved = crate::saving::save(line, mem);
+        let saved = crate::saving::save(host, line, mem);
         return unless_lost(saved, status);
     }
     status
 }
 
 // The head of a trace.
-pub fn show_head(trace: bool) {
+pub fn show_head(host: &Host, trace: bool) {
     if trace {
-        crate::sentences::trace_head();
+        crate::sentences::trace_head(host);
     }
 }
 
 // What stands before a traced step, and whether it could be written.
-pub fn show_before(trace: bool, mem: &[u8], before: CpuRegisters) -> bool {
+pub fn show_before(host: &Host, trace: bool, mem: &[u8], before: CpuRegisters) -> bool {
     if trace {
         let pc = before.pc;
-        return crate::sentences::tracing(mem, pc.0, before);
+        return crate::sentences::tracing(host, mem, pc.0, before);
     }
     true
 }
 
 // What a traced step did, and whether it could be written.
 pub fn show_after(
+    host: &Host,
     trace: bool,
     before: CpuRegisters,
     piece: Ran,
@@ -165,31 +166,31 @@ pub fn show_after(
     if trace {
         let cycles = piece.cycles;
         let last = piece.last;
-        let did = crate::sentences::traced(before.f, cycles.0 as u64, last.number());
-        let wrote = show_writes(writes, mem);
+        let did = crate::sentences::traced(host, before.f, cycles.0 as u64, last.number());
+        let wrote = show_writes(host, writes, mem);
         return did & wrote;
     }
     true
 }
 
 // The bytes that a step wrote, as they stand after it.
-fn show_writes(writes: Written, mem: &[u8]) -> bool {
+fn show_writes(host: &Host, writes: Written, mem: &[u8]) -> bool {
     match writes {
-        Written::Nothing => crate::sentences::wrote_nothing(),
-        Written::One(a) => crate::sentences::wrote_one(mem, a.0),
-        Written::Two(a, b) => crate::sentences::wrote_two(mem, a.0, b.0),
+        Written::Nothing => crate::sentences::wrote_nothing(host),
+        Written::One(a) => crate::sentences::wrote_one(host, mem, a.0),
+        Written::Two(a, b) => crate::sentences::wrote_two(host, mem, a.0, b.0),
     }
 }
 
 // `total` is the number of steps that were asked for.
-pub fn show_progress(far: Far, total: u64, on: bool) {
+pub fn show_progress(host: &Host, far: Far, total: u64, on: bool) {
     if on {
-        crate::sentences::progress(far.steps, total);
+        crate::sentences::progress(host, far.steps, total);
     }
 }
 
-pub fn clear_progress(on: bool) {
+pub fn clear_progress(host: &Host, on: bool) {
     if on {
-        crate::sentences::clear_progress();
+        crate::sentences::clear_progress(host);
     }
 }

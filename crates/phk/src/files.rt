@@ -1,11 +1,17 @@
 // The image is read.
 ghost use Rattle.std.specs.Prelude.{◌≡◌, ◌-◌};
+ghost use Rattle.phk.specs.Counts.{IsPrefixLen};
 ghost use Rattle.phk.specs.Images.{image_of, is_loaded};
 
+use crate::look::text_of;
 use crate::mistakes;
+use crate::said::{Host, arg};
 use crate::view::{Held, is_whole};
 use commandline::grammar::Part;
 use commandline::line::Line;
+use std::fs::File;
+use std::io;
+use std::io::Read;
 
 fn length_of(n: usize) -> u64
     ensures { result ≡ n }
@@ -62,24 +68,46 @@ fn is_loaded(image: Image) -> bool
     }
 }
 
-fn tell_image(image: Image, path: &[u8], n: usize, from: u16) {
+fn tell_error(host: &Host, path: &[u8], e: Option<io::Error>) {
+    if let Some(e) = e {
+        mistakes::unreadable(host, path, e);
+    }
+}
+
+// The error is why an image that is not read cannot be.
+fn tell_image(host: &Host, image: Image, path: &[u8], n: usize, from: u16, e: Option<io::Error>) {
     match image {
-        Image::Unreadable => mistakes::unreadable(path),
-        Image::TooLong => mistakes::too_long(path, length_of(room_from(from))),
-        Image::TooShort => mistakes::too_short(path, length_of(n)),
+        Image::Unreadable => tell_error(host, path, e),
+        Image::TooLong => mistakes::too_long(host, path, length_of(room_from(from))),
+        Image::TooShort => mistakes::too_short(host, path, length_of(n)),
         Image::Part => {}
         Image::Whole => {}
     }
 }
 
-fn read_on(fd: i32) -> isize {
+fn read_on(file: &mut File) -> io::Result<usize> {
     let mut one = [0u8; 1];
-    libc::read(fd, &mut one)
+    file.read(&mut one)
 }
 
-fn read_part(fd: i32, mem: &mut [u8], from: usize) -> usize {
+// Until all of it is filled, or nothing comes.
+fn read_full(file: &mut File, mem: &mut [u8]) -> usize
+    ensures { IsPrefixLen result mem.new }
+{
+    let mut done = 0;
+    while done < mem.len() {
+        match file.read(&mut mem[done..]) {
+            Ok(0) => return done,
+            Ok(n) => done += n,
+            Err(_) => return done,
+        }
+    }
+    done
+}
+
+fn read_part(file: &mut File, mem: &mut [u8], from: usize) -> usize {
     if from <= mem.len() {
-        return io::read_full(fd, &mut mem[from..]);
+        return read_full(file, &mut mem[from..]);
     }
     0
 }
@@ -103,29 +131,47 @@ fn as_loaded(done: bool, from: u16, n: usize) -> Loaded {
     }
 }
 
-fn load_from(fd: i32, path: &[u8], mem: &mut [u8], given: bool, from: u16) -> Loaded {
-    let n = read_part(fd, mem, from as usize);
-    let got = read_on(fd);
-    let image = image_of(got < 0, 0 < got, given, n);
-    tell_image(image, path, n, from);
+fn load_from(
+    host: &Host,
+    file: &mut File,
+    path: &[u8],
+    mem: &mut [u8],
+    given: bool,
+    from: u16,
+) -> Loaded {
+    let n = read_part(file, mem, from as usize);
+    let got = read_on(file);
+    let more = match got {
+        Ok(k) => 0 < k,
+        Err(_) => false,
+    };
+    let image = image_of(got.is_err(), more, given, n);
+    tell_image(host, image, path, n, from, got.err());
     as_loaded(is_loaded(image), from, n)
 }
 
-fn load_named(path: &[u8], mem: &mut [u8], given: bool, from: u16) -> Loaded {
-    let fd = os::open_read(path);
-    if fd < 0 {
-        mistakes::unreadable(path);
-        return as_loaded(false, from, 0);
-    }
-    let done = load_from(fd, path, mem, given, from);
-    libc::close(fd);
-    done
+fn open_read(host: &Host, path: &[u8]) -> io::Result<File> {
+    File::open(&host.rt, text_of(path)?)
 }
 
-pub fn load(line: Line, mem: &mut [u8]) -> Loaded {
-    let mut path = io::buffer();
-    let n = os::arg(line.word(Part::Image, 0), &mut path);
+fn load_named(host: &Host, path: &[u8], mem: &mut [u8], given: bool, from: u16) -> Loaded {
+    match open_read(host, path) {
+        Ok(opened) => {
+            let mut file = opened;
+            load_from(host, &mut file, path, mem, given, from)
+        }
+        Err(e) => {
+            mistakes::unreadable(host, path, e);
+            as_loaded(false, from, 0)
+        }
+    }
+}
+
+pub fn load(host: &Host, line: Line, mem: &mut [u8]) -> Loaded {
+    let mut path = [0u8; 4096];
+    let n = arg(host, line.word(Part::Image, 0), &mut path);
     load_named(
+        host,
         &path[..n],
         mem,
         line.has(Part::At),
@@ -134,10 +180,10 @@ pub fn load(line: Line, mem: &mut [u8]) -> Loaded {
 }
 
 // Of a part of memory, that the rest of it is made up: said once it is clear that what is asked for lies in the part.
-pub fn tell_part(line: Line, held: Held) {
-    let mut path = io::buffer();
-    let n = os::arg(line.word(Part::Image, 0), &mut path);
+pub fn tell_part(host: &Host, line: Line, held: Held) {
+    let mut path = [0u8; 4096];
+    let n = arg(host, line.word(Part::Image, 0), &mut path);
     if !is_whole(held) {
-        mistakes::part(&path[..n], held.length as u64, held.from);
+        mistakes::part(host, &path[..n], held.length as u64, held.from);
     }
 }

@@ -5,6 +5,7 @@ ghost use Rattle.map.specs.declared.passing.Passing.TheVariants.{Never, UpTo};
 ghost use Rattle.phk.specs.View.{held_alone};
 
 use crate::page::print;
+use crate::said::Host;
 use crate::screening::behind;
 use crate::sentences::byte;
 use crate::view::{Held, holds};
@@ -14,31 +15,32 @@ use map::place::{Place, place_of};
 use map::target::{Target, target_at};
 use sm83::Addr;
 
-fn this_is(name: &[u8]) {
-    print(1, b"this is @\n", &[], name);
+fn this_is(host: &Host, name: &[u8]) {
+    print(host, 1, b"this is @\n", &[], name);
 }
 
 // 7: the instruction at the address.
-pub fn forbidden(mem: &[u8], at: u16) {
+pub fn forbidden(host: &Host, mem: &[u8], at: u16) {
     match barred_as(byte(mem, at)) {
         Barred::Allowed => {}
-        Barred::Illegal => this_is(b"no instruction of the SM83"),
-        Barred::Stop => this_is(b"STOP"),
-        Barred::Halt => this_is(b"HALT"),
-        Barred::Ei => this_is(b"EI"),
-        Barred::Reti => this_is(b"RETI"),
-        Barred::JpHl => this_is(b"JP HL"),
-        Barred::Call => this_is(b"a CALL"),
-        Barred::Rst => this_is(b"an RST"),
+        Barred::Illegal => this_is(host, b"no instruction of the SM83"),
+        Barred::Stop => this_is(host, b"STOP"),
+        Barred::Halt => this_is(host, b"HALT"),
+        Barred::Ei => this_is(host, b"EI"),
+        Barred::Reti => this_is(host, b"RETI"),
+        Barred::JpHl => this_is(host, b"JP HL"),
+        Barred::Call => this_is(host, b"a CALL"),
+        Barred::Rst => this_is(host, b"an RST"),
     }
 }
 
 // A jump to a start is not refused, and nothing is said of it.
-fn goes(mem: &[u8], first: u16, last: u16, at: u16, to: Addr) {
+fn goes(host: &Host, mem: &[u8], first: u16, last: u16, at: u16, to: Addr) {
     let from = at as u64;
     let target = to.0 as u64;
     match place_of(mem, Addr(first), Addr(last), to) {
         Place::Outside => print(
+            host,
             1,
             b"the jump at # goes to #, outside the window\n",
             &[from, target],
@@ -46,6 +48,7 @@ fn goes(mem: &[u8], first: u16, last: u16, at: u16, to: Addr) {
         ),
         Place::Start => {}
         Place::Inside(start) => print(
+            host,
             1,
             b"the jump at # goes to #, inside the instruction at #\n",
             &[from, target, start.0 as u64],
@@ -55,33 +58,41 @@ fn goes(mem: &[u8], first: u16, last: u16, at: u16, to: Addr) {
 }
 
 // 10: the jump at the address.
-pub fn jump(mem: &[u8], first: u16, last: u16, at: u16) {
+pub fn jump(host: &Host, mem: &[u8], first: u16, last: u16, at: u16) {
     match target_at(mem, Addr(at)) {
         Target::Nowhere => {}
-        Target::To(to) => goes(mem, first, last, at, to),
+        Target::To(to) => goes(host, mem, first, last, at, to),
     }
 }
 
-fn up_to(a: Addr) {
-    print(1, b"the window would pass up to #\n", &[a.0 as u64], b"");
+fn up_to(host: &Host, a: Addr) {
+    print(
+        host,
+        1,
+        b"the window would pass up to #\n",
+        &[a.0 as u64],
+        b"",
+    );
 }
 
-fn not_below(first: u16, above: Passing) {
+fn not_below(host: &Host, first: u16, above: Passing) {
     match above {
         Passing::Never => print(
+            host,
             1,
             b"no other last address in IMAGE makes the window from # pass\n",
             &[first as u64],
             b"",
         ),
-        Passing::UpTo(high) => up_to(high),
+        Passing::UpTo(high) => up_to(host, high),
     }
 }
 
-fn below(low: Addr, above: Passing) {
+fn below(host: &Host, low: Addr, above: Passing) {
     match above {
-        Passing::Never => up_to(low),
+        Passing::Never => up_to(host, low),
         Passing::UpTo(high) => print(
+            host,
             1,
             b"the window would pass up to # or up to #\n",
             &[low.0 as u64, high.0 as u64],
@@ -111,20 +122,20 @@ fn held_alone(held: Held, first: u16, found: Passing) -> Passing
 }
 
 // 8 and 9: the nearest last addresses, below and above this one.
-pub fn would_pass(mem: &[u8], first: u16, last: u16, held: Held) {
+pub fn would_pass(host: &Host, mem: &[u8], first: u16, last: u16, held: Held) {
     let above = held_alone(held, first, passing_above(mem, Addr(first), Addr(last)));
     match passing_below(mem, Addr(first), Addr(last)) {
-        Passing::Never => not_below(first, above),
-        Passing::UpTo(low) => below(low, above),
+        Passing::Never => not_below(host, first, above),
+        Passing::UpTo(low) => below(host, low, above),
     }
 }
 
 // After the rule that a refusal with an address names; of another refusal there is no more to say.
-pub fn hint(mem: &[u8], number: u8, first: u16, last: u16, at: u16, held: Held) {
+pub fn hint(host: &Host, mem: &[u8], number: u8, first: u16, last: u16, at: u16, held: Held) {
     match number {
-        7 => forbidden(mem, at),
-        8 | 9 => would_pass(mem, first, last, held),
-        10 => jump(mem, first, last, at),
+        7 => forbidden(host, mem, at),
+        8 | 9 => would_pass(host, mem, first, last, held),
+        10 => jump(host, mem, first, last, at),
         _ => {}
     }
 }

@@ -1,15 +1,23 @@
-// What stands at a path, before anything is written there. A path that C cannot be handed, for it is longer than 4,095 bytes, names nothing.
-ghost use Rattle.std.specs.Prelude.{◌≡◌};
-ghost use Rattle.libc.specs.Io.{Ended};
-ghost use Rattle.phk.specs.Looking.{kept_of};
+// What stands at a path, before anything is written there. A path that C cannot be handed, for it is longer than 4,095 bytes, names nothing;
+// nor does one that is no UTF-8.
+ghost use Rattle.std.specs.Prelude.{◌≡◌, ◌<◌};
+ghost use Rattle.phk.specs.Looking.{Ended, kept_of};
 
-use libc::PATH_MAX;
-use libc::types::{stat, timespec};
+use crate::said::Host;
+use std::fs::{Metadata, OpenOptions};
+use std::io::{Error, ErrorKind};
+use std::os::unix::fs::MetadataExt;
+use std::{fs, io};
+
+const PATH_MAX: usize = 4096;
 
 const LAST: usize = PATH_MAX - 1;
 
-// What the system says of a file: its kind and rights (as libc::S_IFMT cuts them), which file it is (the same device and number: the same file),
-// and whose. It says nothing where found is false; errno tells why.
+// The system's number for bytes that are no text.
+const EILSEQ: i32 = 84;
+
+// What the system says of a file: its kind and rights (as S_IFMT cuts them), which file it is (the same device and number: the same file),
+// and whose. It says nothing where found is false.
 #[derive(Clone, Copy)]
 pub struct Looked {
     pub found: bool,
@@ -20,38 +28,29 @@ pub struct Looked {
     pub gid: u32,
 }
 
-fn no_time() -> timespec {
-    timespec {
-        tv_sec: 0,
-        tv_nsec: 0,
-    }
+// What is asked of the system's answer.
+#[derive(Clone, Copy)]
+pub struct Stat {
+    pub st_dev: u64,
+    pub st_ino: u64,
+    pub st_mode: u32,
+    pub st_uid: u32,
+    pub st_gid: u32,
 }
 
 // What is known of a file before the system is asked.
-fn unknown() -> stat {
-    let time = no_time();
-    let unused = [0i64; 3];
-    stat {
+fn unknown() -> Stat {
+    Stat {
         st_dev: 0,
         st_ino: 0,
-        st_nlink: 0,
         st_mode: 0,
         st_uid: 0,
         st_gid: 0,
-        __pad: 0,
-        st_rdev: 0,
-        st_size: 0,
-        st_blksize: 0,
-        st_blocks: 0,
-        st_atim: time,
-        st_mtim: time,
-        st_ctim: time,
-        __unused: unused,
     }
 }
 
 // The status is 0, or -1 where the system knows no such file.
-fn kept(status: i32, s: stat) -> Looked
+fn kept(status: i32, s: Stat) -> Looked
     ensures { result ≡ kept_of status s }
 {
     Looked {
@@ -68,29 +67,70 @@ fn nothing() -> Looked {
     kept(-1, unknown())
 }
 
-// What has the name itself: of a link, the link. This and `followed` lend a struct, so each is proved by hand: they hold nothing else.
-fn named(path: &[u8; PATH_MAX]) -> Looked
+fn stat_of(found: &Metadata) -> Stat {
+    Stat {
+        st_dev: found.dev(),
+        st_ino: found.ino(),
+        st_mode: found.mode(),
+        st_uid: found.uid(),
+        st_gid: found.gid(),
+    }
+}
+
+fn answered(asked: io::Result<Metadata>) -> Looked {
+    match asked {
+        Ok(found) => kept(0, stat_of(&found)),
+        Err(_) => kept(-1, unknown()),
+    }
+}
+
+// A path as the system is handed it.
+pub fn text_of(path: &[u8]) -> io::Result<&str> {
+    match std::str::from_utf8(path) {
+        Ok(text) => Ok(text),
+        Err(_) => Err(Error::from_raw_os_error(EILSEQ)),
+    }
+}
+
+// How long a path is in front of its first 0.
+fn length_of(path: &[u8; PATH_MAX]) -> usize
+    ensures { result < 4096 }
+{
+    let mut i = 0;
+    while i < LAST {
+        if path[i] == 0 {
+            return i;
+        }
+        i += 1;
+    }
+    i
+}
+
+// What has the name itself: of a link, the link.
+fn named(host: &Host, path: &[u8; PATH_MAX]) -> Looked
     requires { Ended path.now }
 {
-    let mut s = unknown();
-    let status = libc::lstat(path, &mut s);
-    kept(status, s)
+    match text_of(&path[..length_of(path)]) {
+        Ok(text) => answered(fs::symlink_metadata(&host.rt, text)),
+        Err(_) => nothing(),
+    }
 }
 
 // What the name leads to, through links.
-fn followed(path: &[u8; PATH_MAX]) -> Looked
+fn followed(host: &Host, path: &[u8; PATH_MAX]) -> Looked
     requires { Ended path.now }
 {
-    let mut s = unknown();
-    let status = libc::stat(path, &mut s);
-    kept(status, s)
+    match text_of(&path[..length_of(path)]) {
+        Ok(text) => answered(fs::metadata(&host.rt, text)),
+        Err(_) => nothing(),
+    }
 }
 
 // As much of the path as leaves room for a 0, and then zeros.
 fn ended(path: &[u8]) -> [u8; PATH_MAX]
     ensures { Ended result }
 {
-    let mut ended = io::buffer();
+    let mut ended = [0u8; PATH_MAX];
     let mut i = 0;
     while i < path.len() {
         if i >= LAST {
@@ -103,22 +143,41 @@ fn ended(path: &[u8]) -> [u8; PATH_MAX]
     ended
 }
 
-pub fn look(path: &[u8], follow: bool) -> Looked {
+pub fn look(host: &Host, path: &[u8], follow: bool) -> Looked {
     if path.len() > LAST {
         return nothing();
     }
     let whole = ended(path);
     if follow {
-        return followed(&whole);
+        return followed(host, &whole);
     }
-    named(&whole)
+    named(host, &whole)
 }
 
-// Whether the user may write to what the name leads to.
-pub fn may_write(path: &[u8]) -> bool {
+// The program's own folder below /proc: it is the user's by whose rights files are opened.
+pub fn user(host: &Host) -> Looked {
+    look(host, b"/proc/self", true)
+}
+
+// Whether a file opens for writing; it is closed at once. One that is being run does not, but may be replaced.
+fn opens(host: &Host, path: &[u8]) -> bool {
+    match text_of(path) {
+        Ok(text) => match OpenOptions::new().write(true).open(&host.rt, text) {
+            Ok(_) => true,
+            Err(e) => e.kind() == ErrorKind::ExecutableFileBusy,
+        },
+        Err(_) => false,
+    }
+}
+
+// Whether the user may write to the file that the name leads to. Only a file is tried: a device or a pipe would be set off.
+pub fn may_write(host: &Host, path: &[u8]) -> bool {
     if path.len() > LAST {
         return false;
     }
-    let whole = ended(path);
-    libc::access(&whole, libc::W_OK) == 0
+    let there = look(host, path, true);
+    if there.mode / 4096 % 16 == 8 {
+        return opens(host, path);
+    }
+    false
 }

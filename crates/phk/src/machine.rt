@@ -12,7 +12,7 @@ use crate::ends::{
     show_head, show_progress,
 };
 use crate::far::{Cut, Far, NOTED, begun, cut_as, cut_unless, farther, over, piece_size};
-use crate::said::Env;
+use crate::said::{Env, Host};
 use crate::start::{budget, started};
 use crate::view::{Held, View, asked, is_outside, is_single, unseen};
 use commandline::grammar::Part;
@@ -22,26 +22,26 @@ use sm83::Cpu;
 use watch::written::next_writes;
 
 // One piece of a run; a traced one has its line: what stands before it, then what it did.
-pub fn piece(far: Far, mem: &mut [u8], budget: u16, trace: bool) -> Far
+pub fn piece(host: &Host, far: Far, mem: &mut [u8], budget: u16, trace: bool) -> Far
     ensures { so_far result mem.new ≡ farther_by (so_far far mem.old) (run_for plain budget far.cpu mem.old) }
 {
     let cpu = far.cpu;
     let before = cpu.registers;
-    let begun = show_before(trace, mem, before);
+    let begun = show_before(host, trace, mem, before);
     let writes = next_writes(cpu, mem);
     let x = run(cpu, mem, budget);
-    let ended = show_after(trace, before, x, writes, mem);
+    let ended = show_after(host, trace, before, x, writes, mem);
     cut_unless(begun & ended, farther(far, x))
 }
 
 // A run that has not stopped by itself is cut where a person asks for it, and before an instruction that is not in the image.
-pub fn looked(far: Far, mem: &[u8], view: View) -> Far
+pub fn looked(host: &Host, far: Far, mem: &[u8], view: View) -> Far
     ensures { result ≡ cut_as far result.cut }
 {
     if over(far) {
         return far;
     }
-    if asked(view.stops) {
+    if asked(host, view.stops) {
         return cut_as(far, Cut::ByHand);
     }
     let cpu = far.cpu;
@@ -69,51 +69,51 @@ pub fn note(far: Far, left: u64, pcs: &mut [u64])
 }
 
 // The run of so many steps. The first piece has none: a state that is refused is refused also with 0 steps.
-pub fn pieces(cpu: Cpu, mem: &mut [u8], steps: u64, view: View, pcs: &mut [u64]) -> Far
+pub fn pieces(host: &Host, cpu: Cpu, mem: &mut [u8], steps: u64, view: View, pcs: &mut [u64]) -> Far
     ensures { Came steps cpu mem.old result mem.new }
 {
-    let mut f = piece(begun(cpu), mem, 0, false);
+    let mut f = piece(host, begun(cpu), mem, 0, false);
     let mut left = steps;
     while 0 < left {
-        f = looked(f, mem, view);
+        f = looked(host, f, mem, view);
         if over(f) {
             return f;
         }
         note(f, left, pcs);
         let size = piece_size(left, is_single(view));
-        f = piece(f, mem, size, view.trace);
-        show_progress(f, steps, view.progress & (size == 65535));
+        f = piece(host, f, mem, size, view.trace);
+        show_progress(host, f, steps, view.progress & (size == 65535));
         left = left - (size as u64);
     }
     f
 }
 
 // The run that the line asks for.
-fn run_all(line: Line, mem: &mut [u8], view: View, pcs: &mut [u64]) -> Far
+fn run_all(host: &Host, line: Line, mem: &mut [u8], view: View, pcs: &mut [u64]) -> Far
     ensures { Came (budget line) (started line) mem.old result mem.new }
 {
-    show_head(view.trace);
-    let end = pieces(started(line), mem, budget(line), view, pcs);
-    clear_progress(view.progress);
+    show_head(host, view.trace);
+    let end = pieces(host, started(line), mem, budget(line), view, pcs);
+    clear_progress(host, view.progress);
     end
 }
 
-pub fn stepping(line: Line, mem: &mut [u8], held: Held) -> u8
+pub fn stepping(host: &Host, line: Line, mem: &mut [u8], held: Held) -> u8
     ensures { Ends 1 (started line) mem.old result mem.new }
 {
-    let mut old = io::large_buffer();
+    let mut old = [0u8; 65536];
     text::page::put(&mut old, 0, mem);
     let mut pcs = [0u64; NOTED];
-    let end = pieces(started(line), mem, 1, unseen(held), &mut pcs);
-    print_end(end, mem, 1, &pcs);
-    crate::sentences::accesses(end.cycles);
-    print_all_changes(&old, mem);
+    let end = pieces(host, started(line), mem, 1, unseen(held), &mut pcs);
+    print_end(host, end, mem, 1, &pcs);
+    crate::sentences::accesses(host, end.cycles);
+    print_all_changes(host, &old, mem);
     let cut = end.cut;
     let last = end.last;
-    saved(line, mem, cut, end_status(cut, last))
+    saved(host, line, mem, cut, end_status(cut, last))
 }
 
-pub fn running(line: Line, mem: &mut [u8], held: Held, env: Env) -> u8
+pub fn running(host: &Host, line: Line, mem: &mut [u8], held: Held, env: Env) -> u8
     ensures { Ends (budget line) (started line) mem.old result mem.new }
 {
     let trace = line.has(Part::Trace);
@@ -124,9 +124,9 @@ pub fn running(line: Line, mem: &mut [u8], held: Held, env: Env) -> u8
         held: held,
     };
     let mut pcs = [0u64; NOTED];
-    let end = run_all(line, mem, view, &mut pcs);
-    print_end(end, mem, budget(line), &pcs);
+    let end = run_all(host, line, mem, view, &mut pcs);
+    print_end(host, end, mem, budget(line), &pcs);
     let cut = end.cut;
     let last = end.last;
-    saved(line, mem, cut, end_status(cut, last))
+    saved(host, line, mem, cut, end_status(cut, last))
 }

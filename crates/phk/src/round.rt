@@ -2,6 +2,7 @@
 ghost use Rattle.std.specs.Prelude.{◌≡◌, slice_index};
 
 use crate::page::{out, print_short};
+use crate::said::Host;
 
 // In a list of places the first number says how many there are; behind it stand those that are few enough to be told.
 const FEW: u64 = 8;
@@ -48,37 +49,37 @@ fn gather(pcs: &[u64], seen: &mut [u8], kept: &mut [u64]) {
     }
 }
 
-fn print_place(kept: &[u64], i: usize) {
+fn print_place(host: &Host, kept: &[u64], i: usize) {
     if i < kept.len() {
         let place = kept[i];
-        print_short(1, b" #", &[place], b"");
+        print_short(host, 1, b" #", &[place], b"");
     }
 }
 
-fn print_places(kept: &[u64], n: u64) {
+fn print_places(host: &Host, kept: &[u64], n: u64) {
     let mut i = 0;
     while i < n {
         i += 1;
-        print_place(kept, i as usize);
+        print_place(host, kept, i as usize);
     }
-    out(b"\n");
+    out(host, b"\n");
 }
 
-fn print_round(kept: &[u64], steps: u64) {
+fn print_round(host: &Host, kept: &[u64], steps: u64) {
     let n = how_many(kept);
     if n <= FEW {
-        print_short(1, b"the last % steps were at", &[steps], b"");
-        print_places(kept, n);
+        print_short(host, 1, b"the last % steps were at", &[steps], b"");
+        print_places(host, kept, n);
     }
 }
 
 // Of a run of fewer steps not all are noted.
-pub fn going_round(budget: u64, pcs: &[u64]) {
+pub fn going_round(host: &Host, budget: u64, pcs: &[u64]) {
     let steps = pcs.len() as u64;
     if (0 < steps) & (steps <= budget) {
-        let mut seen = io::large_buffer();
+        let mut seen = [0u8; 65536];
         let mut kept = [0u64; ROOM];
         gather(pcs, &mut seen, &mut kept);
-        print_round(&kept, steps);
+        print_round(host, &kept, steps);
     }
 }

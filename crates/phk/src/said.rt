@@ -1,6 +1,14 @@
 // What the launcher told the program, and what the program tells it: the status, at the end.
 ghost use Rattle.std.specs.Prelude.{◌≡◌};
+ghost use Rattle.phk.specs.Counts.{IsPrefixLen};
 ghost use Rattle.phk.specs.Status.{status_of, stands, env_in};
+
+use crate::page::note;
+use std::cell::Cell;
+use std::env::{Env as Words, FillError};
+use std::fs::File;
+use std::io;
+use std::io::ErrorKind;
 
 pub const DONE: u8 = 0;
 
@@ -27,6 +35,73 @@ pub struct Env {
     pub wide: bool,
 }
 
+// What standard output has taken: all; not all, since its disk is full, or for another reason.
+#[derive(Clone, Copy)]
+pub enum Taken {
+    All,
+    DiskFull,
+    NoMore,
+}
+
+// The system, by which all is read and written; what standard output has taken so far; and where the place of descriptor 5 can be read, if
+// the launcher opened it.
+#[derive(Drop)]
+pub struct Host {
+    pub rt: HostRuntime,
+    pub taken: Cell<Taken>,
+    pub place: Option<File>,
+}
+
+pub fn hosted(rt: HostRuntime) -> Host {
+    let place = File::open(&rt, "/proc/self/fdinfo/5").ok();
+    Host {
+        rt: rt,
+        taken: Cell::new(Taken::All),
+        place: place,
+    }
+}
+
+// Standard output takes no more.
+pub fn lose(host: &Host, e: io::Error) {
+    host.taken.set(match e.kind() {
+        ErrorKind::StorageFull => Taken::DiskFull,
+        _ => Taken::NoMore,
+    });
+}
+
+// How many words the program was given, its own name among them.
+pub fn arg_count(host: &Host) -> usize {
+    let mut word = [0u8; 1];
+    let mut count = 0;
+    for i in 0..usize::MAX {
+        match host.rt.arg(i, &mut word) {
+            Ok(_) | Err(FillError::TooLong) => {}
+            Err(FillError::NotPresent) => break,
+        }
+        count = i + 1;
+    }
+    count
+}
+
+// Whether a word is longer than there is room.
+pub fn is_overlong(host: &Host, i: usize) -> bool {
+    let mut word = [0u8; 4096];
+    match host.rt.arg(i, &mut word) {
+        Err(FillError::TooLong) => true,
+        _ => false,
+    }
+}
+
+// A word that was given, and its length; nothing if there is none or it is longer than there is room.
+pub fn arg(host: &Host, i: usize, word: &mut [u8]) -> usize
+    ensures { IsPrefixLen result word.new }
+{
+    match host.rt.arg(i, word) {
+        Ok(n) => n,
+        Err(_) => 0,
+    }
+}
+
 // The status that a refusal's number stands for; 0 is none.
 pub fn status_of(refusal: u8) -> u8
     ensures { result ≡ status_of refusal }
@@ -35,6 +110,7 @@ pub fn status_of(refusal: u8) -> u8
     if none { DONE } else { REFUSED }
 }
 
+#[tactic(auto, unfolding(crate::specs::Status::stands))]
 fn stands(word: &[u8], i: usize, b: u8) -> bool
     ensures { result ≡ stands word.now i b }
 {
@@ -62,16 +138,29 @@ fn env_in(word: &[u8]) -> Env
     }
 }
 
-pub fn told() -> Env {
-    let mut word = io::buffer();
-    let n = os::arg(1, &mut word);
+pub fn told(host: &Host) -> Env {
+    let mut word = [0u8; 4096];
+    let n = arg(host, 1, &mut word);
     env_in(&word[..n])
 }
 
-// Descriptor 6 is a file that the launcher opened, whose place they share: it is moved to 1 and the status.
-pub fn last_word(env: Env, status: u8) {
-    if env.tells {
-        libc::lseek(6, status as i64, libc::SEEK_SET);
-        libc::lseek(6, 1, libc::SEEK_CUR);
+// The status, unless standard output did not take all that was said.
+pub fn last_word(host: &Host, status: u8) -> u8 {
+    match host.taken.get() {
+        Taken::All => status,
+        Taken::DiskFull => {
+            note(
+                host,
+                b"phk: standard output: no space left on its device; what was to be said is not all there\n",
+            );
+            LOST_OUTPUT
+        }
+        Taken::NoMore => {
+            note(
+                host,
+                b"phk: standard output takes no more; what was to be said is not all there\n",
+            );
+            LOST_OUTPUT
+        }
     }
 }

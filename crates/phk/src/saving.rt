@@ -2,11 +2,16 @@
 ghost use Rattle.std.specs.Prelude.{◌≡◌};
 ghost use Rattle.phk.specs.Targets.{target_of, is_free, same_file};
 
-use crate::look::{Looked, look, may_write};
+use crate::look::{Looked, look, may_write, text_of, user};
 use crate::mistakes;
 use crate::page::within;
+use crate::said::{Host, arg};
 use commandline::grammar::Part;
 use commandline::line::Line;
+use std::fs::{File, OpenOptions, Permissions};
+use std::io::Write;
+use std::os::unix::fs::{PermissionsExt, fchown};
+use std::{fs, io};
 use text::page::put;
 
 // What stands at the name that --out gives.
@@ -79,138 +84,159 @@ fn is_free(target: Target) -> bool
     }
 }
 
-fn tell_target(target: Target, path: &[u8]) {
+fn tell_target(host: &Host, target: Target, path: &[u8]) {
     match target {
         Target::Nothing => {}
-        Target::Link => mistakes::out_link(path),
-        Target::Folder => mistakes::out_folder(path),
-        Target::NoFile => mistakes::out_no_file(path),
-        Target::TheImage => mistakes::out_image(path),
-        Target::ReadOnly => mistakes::out_read_only(path),
-        Target::NotYours => mistakes::out_not_yours(path),
+        Target::Link => mistakes::out_link(host, path),
+        Target::Folder => mistakes::out_folder(host, path),
+        Target::NoFile => mistakes::out_no_file(host, path),
+        Target::TheImage => mistakes::out_image(host, path),
+        Target::ReadOnly => mistakes::out_read_only(host, path),
+        Target::NotYours => mistakes::out_not_yours(host, path),
         Target::File => {}
     }
 }
 
-fn may_save_as(path: &[u8], image: &[u8]) -> bool {
-    let there = look(path, false);
-    let user = libc::geteuid();
-    let may = may_write(path) & ((user == 0) | (user == there.uid));
-    let target = target_of(there, look(image, true), may);
-    tell_target(target, path);
+fn may_save_as(host: &Host, path: &[u8], image: &[u8]) -> bool {
+    let there = look(host, path, false);
+    let user = user(host);
+    let owns = user.found & ((user.uid == 0) | (user.uid == there.uid));
+    let may = may_write(host, path) & owns;
+    let target = target_of(there, look(host, image, true), may);
+    tell_target(host, target, path);
     if !is_free(target) {
         return false;
     }
-    if is_output(there, path) {
+    if is_output(host, there, path) {
         return false;
     }
-    may_make(path)
+    may_make(host, path)
 }
 
 // A file that standard output goes to would take what is said with it when it is replaced.
-fn is_output(there: Looked, path: &[u8]) -> bool {
-    let same = there.found & same_file(there, look(b"/dev/stdout", true));
+fn is_output(host: &Host, there: Looked, path: &[u8]) -> bool {
+    let same = there.found & same_file(there, look(host, b"/dev/stdout", true));
     if same {
-        mistakes::out_output(path);
+        mistakes::out_output(host, path);
     }
     same
 }
 
 // The new file's name is the file's with .new- and the program's first word, in which the launcher puts its process's number: if the
 // program is ended in between, the launcher removes it by that name.
-fn name_beside(new: &mut [u8], path: &[u8]) -> usize {
-    let mut word = io::buffer();
-    let k = os::arg(1, &mut word);
+fn name_beside(host: &Host, new: &mut [u8], path: &[u8]) -> usize {
+    let mut word = [0u8; 4096];
+    let k = arg(host, 1, &mut word);
     let at = put(new, 0, path);
     let at = put(new, at, b".new-");
     put(new, at, &word[..k])
 }
 
-// Whether its folder takes a new file: tried with an empty one, which is removed at once.
-fn may_make(path: &[u8]) -> bool {
-    let mut new = io::large_buffer();
-    let n = name_beside(&mut new, path);
-    let n = within(&new, n);
-    let fd = os::create(&new[..n]);
-    if fd < 0 {
-        mistakes::out_not_made(path);
-        return false;
+// A new file, where there is none of that name.
+fn create(host: &Host, path: &[u8]) -> io::Result<File> {
+    let text = text_of(path)?;
+    OpenOptions::new()
+        .write(true)
+        .create_new(true)
+        .open(&host.rt, text)
+}
+
+// What cannot be removed stays.
+fn remove(host: &Host, path: &[u8]) {
+    if let Ok(text) = text_of(path) {
+        let _ = fs::remove_file(&host.rt, text);
     }
-    libc::close(fd);
-    os::unlink(&new[..n]);
+}
+
+fn rename(host: &Host, from: &[u8], to: &[u8]) -> io::Result<()> {
+    let from = text_of(from)?;
+    let to = text_of(to)?;
+    fs::rename(&host.rt, from, to)
+}
+
+// Whether its folder takes a new file: tried with an empty one, which is removed at once.
+fn may_make(host: &Host, path: &[u8]) -> bool {
+    let mut new = [0u8; 65536];
+    let n = name_beside(host, &mut new, path);
+    let n = within(&new, n);
+    match create(host, &new[..n]) {
+        Ok(_) => {}
+        Err(e) => {
+            mistakes::out_not_made(host, path, e);
+            return false;
+        }
+    }
+    remove(host, &new[..n]);
     true
 }
 
 // Only a new name or a file that the caller may write is written to, and never the image: asked before anything is run.
-pub fn may_save(line: Line) -> bool {
-    let mut path = io::buffer();
-    let mut image = io::buffer();
-    let n = os::arg(line.word(Part::Out, 0), &mut path);
-    let k = os::arg(line.word(Part::Image, 0), &mut image);
+pub fn may_save(host: &Host, line: Line) -> bool {
+    let mut path = [0u8; 4096];
+    let mut image = [0u8; 4096];
+    let n = arg(host, line.word(Part::Out, 0), &mut path);
+    let k = arg(host, line.word(Part::Image, 0), &mut image);
     let absent = !line.has(Part::Out);
     if absent {
         return true;
     }
     if n == 0 {
-        mistakes::out_unnamed();
+        mistakes::out_unnamed(host);
         return false;
     }
-    may_save_as(&path[..n], &image[..k])
+    may_save_as(host, &path[..n], &image[..k])
 }
 
 // All bytes, to the disk.
-fn fill(fd: i32, mem: &[u8]) -> bool {
-    let written = io::write_all(fd, mem);
-    let kept = libc::fsync(fd);
-    let closed = libc::close(fd);
-    if closed < 0 {
-        return false;
+fn fill(file: File, mem: &[u8]) -> io::Result<()> {
+    let mut file = file;
+    let written = file.write_all(mem);
+    let kept = file.sync_all();
+    match kept {
+        Ok(()) => written,
+        Err(e) => Err(e),
     }
-    if kept < 0 {
-        return false;
-    }
-    written
 }
 
 // A file that is replaced hands its owner and its mode on; who may not give files away keeps it.
-fn hand_on(fd: i32, there: Looked) {
+fn hand_on(file: &File, there: Looked) {
     if there.found {
-        libc::fchown(fd, there.uid, there.gid);
-        libc::fchmod(fd, there.mode % 4096);
+        let _ = fchown(file, Some(there.uid), Some(there.gid));
+        let _ = file.set_permissions(Permissions::from_mode(there.mode % 4096));
     }
 }
 
-fn save_as(new: &[u8], path: &[u8], mem: &[u8]) -> bool {
-    let fd = os::create(new);
-    if fd < 0 {
-        mistakes::out_not_made(path);
+fn save_as(host: &Host, new: &[u8], path: &[u8], mem: &[u8]) -> bool {
+    let file = match create(host, new) {
+        Ok(file) => file,
+        Err(e) => {
+            mistakes::out_not_made(host, path, e);
+            return false;
+        }
+    };
+    hand_on(&file, look(host, path, false));
+    if let Err(e) = fill(file, mem) {
+        mistakes::out_not_filled(host, path, e);
+        remove(host, new);
         return false;
     }
-    hand_on(fd, look(path, false));
-    let filled = fill(fd, mem);
-    if !filled {
-        mistakes::out_not_filled(path);
-        os::unlink(new);
-        return false;
-    }
-    let renamed = os::rename(new, path);
-    if renamed < 0 {
-        mistakes::out_not_placed(path);
-        os::unlink(new);
+    if let Err(e) = rename(host, new, path) {
+        mistakes::out_not_placed(host, path, e);
+        remove(host, new);
         return false;
     }
     true
 }
 
-fn save_named(path: &[u8], mem: &[u8]) -> bool {
-    let mut new = io::large_buffer();
-    let n = name_beside(&mut new, path);
+fn save_named(host: &Host, path: &[u8], mem: &[u8]) -> bool {
+    let mut new = [0u8; 65536];
+    let n = name_beside(host, &mut new, path);
     let n = within(&new, n);
-    save_as(&new[..n], path, mem)
+    save_as(host, &new[..n], path, mem)
 }
 
-pub fn save(line: Line, mem: &[u8]) -> bool {
-    let mut path = io::buffer();
-    let n = os::arg(line.word(Part::Out, 0), &mut path);
-    save_named(&path[..n], mem)
+pub fn save(host: &Host, line: Line, mem: &[u8]) -> bool {
+    let mut path = [0u8; 4096];
+    let n = arg(host, line.word(Part::Out, 0), &mut path);
+    save_named(host, &path[..n], mem)
 }

@@ -4,7 +4,8 @@ ghost use Rattle.std.specs.Prelude.{◌≡◌, ◌+◌, ◌%◌};
 ghost use Rattle.definition.specs.Bus.{byte_at};
 ghost use Rattle.phk.specs.Values.{values_of};
 
-use crate::page::{out, print, print_short};
+use crate::page::{note, out, print, print_short};
+use crate::said::Host;
 use map::opcode::length_of;
 use sm83::{Addr, CpuRegisters};
 use text::lines::line_of;
@@ -23,8 +24,8 @@ pub fn after(a: u16, by: u16) -> u16
     to.0
 }
 
-fn end_line() {
-    out(b"\n");
+fn end_line(host: &Host) {
+    out(host, b"\n");
 }
 
 // The registers as values: AF, BC, DE, HL, SP, PC, and F for the flags.
@@ -45,7 +46,7 @@ fn values_of(r: CpuRegisters) -> [u64; 7]
 }
 
 // An instruction start and its bytes, by a form for each length.
-fn print_start(forms: &[u8], mem: &[u8], a: u16) -> bool {
+fn print_start(host: &Host, forms: &[u8], mem: &[u8], a: u16) -> bool {
     let b = byte(mem, a);
     let values = [
         a as u64,
@@ -53,17 +54,18 @@ fn print_start(forms: &[u8], mem: &[u8], a: u16) -> bool {
         byte(mem, after(a, 1)) as u64,
         byte(mem, after(a, 2)) as u64,
     ];
-    print_short(1, line_of(forms, length_of(b) as usize), &values, b"")
+    print_short(host, 1, line_of(forms, length_of(b) as usize), &values, b"")
 }
 
-pub fn start(mem: &[u8], a: u16) {
-    print_start(b"\n#  $\n#  $ $\n#  $ $ $", mem, a);
-    end_line();
+pub fn start(host: &Host, mem: &[u8], a: u16) {
+    print_start(host, b"\n#  $\n#  $ $\n#  $ $ $", mem, a);
+    end_line(host);
 }
 
-pub fn passes(first: u16, last: u16, instructions: u64, jumps: u64) {
+pub fn passes(host: &Host, first: u16, last: u16, instructions: u64, jumps: u64) {
     let values = [first as u64, last as u64, instructions, jumps];
     print(
+        host,
         1,
         b"passes: # to #, instructions %, jumps %\n",
         &values,
@@ -72,7 +74,7 @@ pub fn passes(first: u16, last: u16, instructions: u64, jumps: u64) {
 }
 
 // The rule that a refusal means was broken, and what to do.
-fn rule(number: u8) {
+fn rule(host: &Host, number: u8) {
     let text = line_of(
         b"
 the memory is not 65,536 bytes long; give a whole image, or say with --at where a part of one lies
@@ -87,44 +89,48 @@ the last instruction may run on past LAST; let the routine end with a JP, JR or 
 this jump goes where no instruction of the window starts; aim it at a start inside the window, or widen the window",
         number as usize,
     );
-    out(text);
-    end_line();
+    out(host, text);
+    end_line(host);
 }
 
-pub fn refused(number: u8) {
-    print(1, b"refused %\n", &[number as u64], b"");
-    rule(number);
+pub fn refused(host: &Host, number: u8) {
+    print(host, 1, b"refused %\n", &[number as u64], b"");
+    rule(host, number);
 }
 
 // What the screen says, before a run within a window.
-pub fn screened() {
-    out(b"screen: ");
+pub fn screened(host: &Host) {
+    out(host, b"screen: ");
 }
 
 // What demand 3 says of a routine that passes, started as it wants.
-pub fn proved() {
+pub fn proved(host: &Host) {
     out(
+        host,
         b"proved: until it returns or writes into itself, PC stays at its instruction starts, and no step is refused, halts, stops or is interrupted
 ",
     );
 }
 
-pub fn not_proved_of_refused() {
+pub fn not_proved_of_refused(host: &Host) {
     out(
+        host,
         b"nothing is proved of a routine that does not pass; its instruction starts are those met from its first address on
 ",
     );
 }
 
-pub fn not_proved_of_state() {
+pub fn not_proved_of_state(host: &Host) {
     out(
+        host,
         b"nothing is proved of this start: the routine passes, but interrupts are on, or about to be, or F is no F
 ",
     );
 }
 
-pub fn not_proved_of_start(a: u16) {
+pub fn not_proved_of_start(host: &Host, a: u16) {
     print(
+        host,
         1,
         b"nothing is proved of this start: the routine passes, but # is no instruction start of it\n",
         &[a as u64],
@@ -134,12 +140,13 @@ pub fn not_proved_of_start(a: u16) {
 
 // Why the watch ended.
 
-pub fn returned(a: u16) {
-    print(1, b"it has returned, to #\n", &[a as u64], b"");
+pub fn returned(host: &Host, a: u16) {
+    print(host, 1, b"it has returned, to #\n", &[a as u64], b"");
 }
 
-pub fn strayed(a: u16) {
+pub fn strayed(host: &Host, a: u16) {
     print(
+        host,
         1,
         b"it has lost its place: # is no instruction start of the routine, and no return led there\n",
         &[a as u64],
@@ -147,24 +154,25 @@ pub fn strayed(a: u16) {
     );
 }
 
-pub fn was_refused() {
-    out(b"a step is refused\n");
+pub fn was_refused(host: &Host) {
+    out(host, b"a step is refused\n");
 }
 
-pub fn was_stopped() {
-    out(b"a step stops the processor\n");
+pub fn was_stopped(host: &Host) {
+    out(host, b"a step stops the processor\n");
 }
 
-pub fn was_halted() {
-    out(b"a step halts the processor\n");
+pub fn was_halted(host: &Host) {
+    out(host, b"a step halts the processor\n");
 }
 
-pub fn was_interrupted() {
-    out(b"a step takes an interrupt\n");
+pub fn was_interrupted(host: &Host) {
+    out(host, b"a step takes an interrupt\n");
 }
 
-pub fn wrote_inside(a: u16) {
+pub fn wrote_inside(host: &Host, a: u16) {
     print(
+        host,
         1,
         b"a step writes into the routine, at #; from there on it is another routine\n",
         &[a as u64],
@@ -172,23 +180,23 @@ pub fn wrote_inside(a: u16) {
     );
 }
 
-pub fn last_steps() {
-    out(b"that step, and up to sixteen before it:\n");
+pub fn last_steps(host: &Host) {
+    out(host, b"that step, and up to sixteen before it:\n");
 }
 
-pub fn not_run(f: u8) -> bool {
-    print_short(1, b" &  0  not run\n", &[f as u64], b"")
+pub fn not_run(host: &Host, f: u8) -> bool {
+    print_short(host, 1, b" &  0  not run\n", &[f as u64], b"")
 }
 
 // A refusal that names an address, and the bytes there.
-pub fn refused_at(mem: &[u8], number: u8, a: u16) {
-    print(1, b"refused % at ", &[number as u64], b"");
-    start(mem, a);
-    rule(number);
+pub fn refused_at(host: &Host, mem: &[u8], number: u8, a: u16) {
+    print(host, 1, b"refused % at ", &[number as u64], b"");
+    start(host, mem, a);
+    rule(host, number);
 }
 
 // How a run ended.
-pub fn ended(outcome: u16) {
+pub fn ended(host: &Host, outcome: u16) {
     let text = line_of(
         b"an instruction ran, and the processor goes on
 it loops for ever: the jump at PC jumps to itself
@@ -205,13 +213,14 @@ it took interrupt 3, at vector 0058
 it took interrupt 4, at vector 0060",
         outcome as usize,
     );
-    out(text);
-    end_line();
+    out(host, text);
+    end_line(host);
 }
 
 // A run that would go on.
-pub fn limit(budget: u64) {
+pub fn limit(host: &Host, budget: u64) {
     print(
+        host,
         1,
         b"the limit of % steps was reached, and the processor goes on; --steps N sets another limit\n",
         &[budget],
@@ -219,12 +228,16 @@ pub fn limit(budget: u64) {
     );
 }
 
-pub fn stopped_by_hand() {
-    out(b"it was stopped from the keyboard, and would go on; no file was written\n");
+pub fn stopped_by_hand(host: &Host) {
+    out(
+        host,
+        b"it was stopped from the keyboard, and would go on; no file was written\n",
+    );
 }
 
-pub fn left_the_image(a: u16) {
+pub fn left_the_image(host: &Host, a: u16) {
     print(
+        host,
         1,
         b"it has left the image: the instruction at # is not all in it\n",
         &[a as u64],
@@ -233,10 +246,11 @@ pub fn left_the_image(a: u16) {
 }
 
 // What a run came to.
-pub fn report(steps: u64, cycles: u64, registers: CpuRegisters) {
-    print(1, b"steps %, M-cycles %\n", &[steps, cycles], b"");
+pub fn report(host: &Host, steps: u64, cycles: u64, registers: CpuRegisters) {
+    print(host, 1, b"steps %, M-cycles %\n", &[steps, cycles], b"");
     let values = values_of(registers);
     print(
+        host,
         1,
         b"AF #  BC #  DE #  HL #  SP #  PC #  flags &\n",
         &values,
@@ -244,44 +258,47 @@ pub fn report(steps: u64, cycles: u64, registers: CpuRegisters) {
     );
 }
 
-pub fn interrupts(on: bool, soon: bool) {
+pub fn interrupts(host: &Host, on: bool, soon: bool) {
     if on {
-        out(b"interrupts on\n");
+        out(host, b"interrupts on\n");
         return;
     }
-    out(b"interrupts off");
+    out(host, b"interrupts off");
     if soon {
-        out(b", on after the next instruction");
+        out(host, b", on after the next instruction");
     }
-    end_line();
+    end_line(host);
 }
 
-pub fn accesses(cycles: u64) {
-    print(1, b"accesses to memory %\n", &[cycles], b"");
+pub fn accesses(host: &Host, cycles: u64) {
+    print(host, 1, b"accesses to memory %\n", &[cycles], b"");
 }
 
-pub fn change(a: u16, before: u8, now: u8) {
+pub fn change(host: &Host, a: u16, before: u8, now: u8) {
     let values = [a as u64, before as u64, now as u64];
-    print(1, b"#  was $, is $\n", &values, b"");
+    print(host, 1, b"#  was $, is $\n", &values, b"");
 }
 
-pub fn no_change() {
-    out(b"no byte of memory changed\n");
+pub fn no_change(host: &Host) {
+    out(host, b"no byte of memory changed\n");
 }
 
-pub fn trace_head() {
-    out(b"PC    bytes     AF   BC   DE   HL   SP   ZNHC  M-cycles, outcome, writes\n");
+pub fn trace_head(host: &Host) {
+    out(
+        host,
+        b"PC    bytes     AF   BC   DE   HL   SP   ZNHC  M-cycles, outcome, writes\n",
+    );
 }
 
 // Where a traced step begins: PC, the bytes there and the registers.
-pub fn tracing(mem: &[u8], a: u16, before: CpuRegisters) -> bool {
-    let begun = print_start(b"\n#  $       \n#  $ $    \n#  $ $ $ ", mem, a);
-    let ended = print_short(1, b" # # # # #", &values_of(before), b"");
+pub fn tracing(host: &Host, mem: &[u8], a: u16, before: CpuRegisters) -> bool {
+    let begun = print_start(host, b"\n#  $       \n#  $ $    \n#  $ $ $ ", mem, a);
+    let ended = print_short(host, 1, b" # # # # #", &values_of(before), b"");
     begun & ended
 }
 
 // What it did: the flags before it, its M-cycles and how it ended.
-pub fn traced(f: u8, cycles: u64, outcome: u16) -> bool {
+pub fn traced(host: &Host, f: u8, cycles: u64, outcome: u16) -> bool {
     let brief = line_of(
         b"ran
 loops for ever
@@ -305,49 +322,55 @@ refused 2
 refused 3",
         outcome as usize,
     );
-    print_short(1, b" &  %  @", &[f as u64, cycles], brief)
+    print_short(host, 1, b" &  %  @", &[f as u64, cycles], brief)
 }
 
-pub fn wrote_nothing() -> bool {
-    print_short(1, b"\n", &[], b"")
+pub fn wrote_nothing(host: &Host) -> bool {
+    print_short(host, 1, b"\n", &[], b"")
 }
 
-pub fn wrote_one(mem: &[u8], a: u16) -> bool {
+pub fn wrote_one(host: &Host, mem: &[u8], a: u16) -> bool {
     let values = [a as u64, byte(mem, a) as u64];
-    print_short(1, b"  #=$\n", &values, b"")
+    print_short(host, 1, b"  #=$\n", &values, b"")
 }
 
-pub fn wrote_two(mem: &[u8], a: u16, b: u16) -> bool {
+pub fn wrote_two(host: &Host, mem: &[u8], a: u16, b: u16) -> bool {
     let values = [a as u64, byte(mem, a) as u64, b as u64, byte(mem, b) as u64];
-    print_short(1, b"  #=$ #=$\n", &values, b"")
+    print_short(host, 1, b"  #=$ #=$\n", &values, b"")
 }
 
 // How far a long run has come, on one line that is written over.
-pub fn progress(steps: u64, total: u64) {
-    print(2, b"\r% of % steps", &[steps, total], b"");
+pub fn progress(host: &Host, steps: u64, total: u64) {
+    print(host, 2, b"\r% of % steps", &[steps, total], b"");
 }
 
-pub fn clear_progress() {
-    io::write_all(2, b"\r                                \r");
+pub fn clear_progress(host: &Host) {
+    note(host, b"\r                                \r");
 }
 
-pub fn row(a: u16) {
-    print(1, b"#  ", &[a as u64], b"");
+pub fn row(host: &Host, a: u16) {
+    print(host, 1, b"#  ", &[a as u64], b"");
 }
 
 // One byte of the map: the letter of its kind (0 not reached, 1 an instruction start, 2 an operand byte, 3 a jump's start, 4 the refused
 // byte), in its kind's colour if colours are wanted.
-pub fn cell(kind: u8, colour: bool) {
+pub fn cell(host: &Host, kind: u8, colour: bool) {
     if colour {
-        out(line_of(
-            b"-\x1b[0m\n\x1b[32mI\x1b[0m\n\x1b[2m.\x1b[0m\n\x1b[36mJ\x1b[0m\n\x1b[31;7mX\x1b[0m",
-            kind as usize,
-        ));
+        out(
+            host,
+            line_of(
+                b"-\x1b[0m\n\x1b[32mI\x1b[0m\n\x1b[2m.\x1b[0m\n\x1b[36mJ\x1b[0m\n\x1b[31;7mX\x1b[0m",
+                kind as usize,
+            ),
+        );
     } else {
-        out(line_of(b"-\nI\n.\nJ\nX", kind as usize));
+        out(host, line_of(b"-\nI\n.\nJ\nX", kind as usize));
     }
 }
 
-pub fn legend() {
-    out(b"I instruction start   . operand byte   J jump   X refused here   - not reached\n");
+pub fn legend(host: &Host) {
+    out(
+        host,
+        b"I instruction start   . operand byte   J jump   X refused here   - not reached\n",
+    );
 }

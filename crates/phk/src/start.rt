@@ -6,6 +6,7 @@ use commandline::grammar::{Part, Power};
 use commandline::line::Line;
 use sm83::{Addr, Cpu, CpuRegisters, HaltMode};
 
+#[tactic(auto, unfolding(crate::specs::Start::at_power_on))]
 fn at_power_on(power: Power) -> Cpu
     ensures { result ≡ at_power_on power }
 {

@@ -2,7 +2,10 @@
 ghost use Rattle.std.specs.Prelude.{◌≡◌};
 ghost use Rattle.phk.specs.View.{holds, is_whole, is_single, is_outside, unseen};
 
+use crate::said::Host;
 use map::opcode::length_of;
+use std::fs::File;
+use std::os::unix::fs::FileExt;
 
 // The bytes of memory that the image has: `length` of them, from an address on.
 #[derive(Clone, Copy)]
@@ -57,11 +60,23 @@ pub fn unseen(held: Held) -> View
 }
 
 // The launcher has asked to stop: it has read from the file that it opened as descriptor 5, whose place it shares with the program.
-pub fn asked(stops: bool) -> bool {
+pub fn asked(host: &Host, stops: bool) -> bool {
     if stops {
-        return libc::lseek(5, 0, libc::SEEK_CUR) != 0;
+        return has_moved(&host.place);
     }
     false
+}
+
+// The system says of a descriptor "pos:", a tab and its place first: 0 at the file's beginning.
+fn has_moved(place: &Option<File>) -> bool {
+    let mut said = [0u8; 8];
+    match place {
+        Some(file) => match file.read_at(&mut said, 0) {
+            Ok(n) => (5 < n) & (said[5] != b'0'),
+            Err(_) => false,
+        },
+        None => false,
+    }
 }
 
 // The instruction at an address, whose first byte is b, is not all in the image.

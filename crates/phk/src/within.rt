@@ -14,7 +14,7 @@ use crate::ends::{end_status, print_end, saved, show_after, show_before, show_he
 use crate::far::{Far, NOTED, begun, farther, over};
 use crate::machine::{looked, note, piece, pieces};
 use crate::page::within;
-use crate::said::Env;
+use crate::said::{Env, Host};
 use crate::screening::{behind, verdict_told};
 use crate::start::{budget, started};
 use crate::view::{Held, View, unseen};
@@ -52,7 +52,14 @@ fn ends_watch(why: Why) -> bool
 }
 
 // One step at a marked start.
-fn watched_step(far: Far, mem: &mut [u8], first: Addr, marks: &[u8], trace: bool) -> Seen
+fn watched_step(
+    host: &Host,
+    far: Far,
+    mem: &mut [u8],
+    first: Addr,
+    marks: &[u8],
+    trace: bool,
+) -> Seen
     requires { is_marked marks.now first.0 (pc far.cpu) ≡ true }
     ensures mem_after { so_far result.far mem.new ≡ farther_by (so_far far mem.old) (run_for plain 1 far.cpu mem.old) }
     ensures why_value { result.why ≡ (watch_on far.cpu mem.old first.0 marks.now).why }
@@ -62,11 +69,11 @@ fn watched_step(far: Far, mem: &mut [u8], first: Addr, marks: &[u8], trace: bool
     let before = cpu.registers;
     let home = returns(cpu, mem);
     let writes = next_writes(cpu, mem);
-    show_before(trace, mem, before);
+    show_before(host, trace, mem, before);
     let w = watch(cpu, mem, first, marks);
     let ran = w.ran;
     let why = w.why;
-    show_after(trace, before, ran, writes, mem);
+    show_after(host, trace, before, ran, writes, mem);
     let farther = farther(far, ran);
     Seen {
         far: farther,
@@ -101,6 +108,7 @@ fn seen_at(far: Far, why: Why, home: bool, first: Addr, marks: &[u8]) -> Seen
 
 // So many steps, or until the watch ends, or the run does.
 fn watched(
+    host: &Host,
     cpu: Cpu,
     mem: &mut [u8],
     steps: u64,
@@ -111,7 +119,7 @@ fn watched(
 ) -> Seen
     ensures { Went steps cpu mem.old result.far mem.new }
 {
-    let mut f = piece(begun(cpu), mem, 0, false);
+    let mut f = piece(host, begun(cpu), mem, 0, false);
     let mut why = Why::Stays;
     let mut home = false;
     let mut left = steps;
@@ -121,12 +129,12 @@ fn watched(
         if over(f) | ends_watch(why) | astray {
             return seen_at(f, why, home, first, marks);
         }
-        f = looked(f, mem, view);
+        f = looked(host, f, mem, view);
         if over(f) {
             return seen_at(f, why, home, first, marks);
         }
         note(f, left, pcs);
-        let s = watched_step(f, mem, first, marks, view.trace);
+        let s = watched_step(host, f, mem, first, marks, view.trace);
         f = s.far;
         why = s.why;
         home = s.home;
@@ -136,41 +144,41 @@ fn watched(
 }
 
 // What is proved of a run from here, and therefore cannot happen.
-fn print_proved(passes: bool, cpu: Cpu, first: Addr, marks: &[u8]) {
+fn print_proved(host: &Host, passes: bool, cpu: Cpu, first: Addr, marks: &[u8]) {
     let registers = cpu.registers;
     let pc = registers.pc;
     if !passes {
-        sentences::not_proved_of_refused();
+        sentences::not_proved_of_refused(host);
         return;
     }
     if strays(first, marks, cpu) {
-        sentences::not_proved_of_start(pc.0);
+        sentences::not_proved_of_start(host, pc.0);
         return;
     }
     if quiet(cpu) {
-        sentences::proved();
+        sentences::proved(host);
     } else {
-        sentences::not_proved_of_state();
+        sentences::not_proved_of_state(host);
     }
 }
 
-fn print_stray(home: bool, at: u16) {
+fn print_stray(host: &Host, home: bool, at: u16) {
     if home {
-        sentences::returned(at);
+        sentences::returned(host, at);
     } else {
-        sentences::strayed(at);
+        sentences::strayed(host, at);
     }
 }
 
-fn print_why(why: Why, home: bool, at: u16) {
+fn print_why(host: &Host, why: Why, home: bool, at: u16) {
     match why {
         Why::Stays => {}
-        Why::Strays => print_stray(home, at),
-        Why::Refused => sentences::was_refused(),
-        Why::Stops => sentences::was_stopped(),
-        Why::Halts => sentences::was_halted(),
-        Why::Interrupted => sentences::was_interrupted(),
-        Why::Writes(a) => sentences::wrote_inside(a.0),
+        Why::Strays => print_stray(host, home, at),
+        Why::Refused => sentences::was_refused(host),
+        Why::Stops => sentences::was_stopped(host),
+        Why::Halts => sentences::was_halted(host),
+        Why::Interrupted => sentences::was_interrupted(host),
+        Why::Writes(a) => sentences::wrote_inside(host, a.0),
     }
 }
 
@@ -189,11 +197,11 @@ fn is_stray(why: Why) -> bool
 }
 
 // A step at no start of the routine is not run.
-fn print_not_run(mem: &[u8], cpu: Cpu) {
+fn print_not_run(host: &Host, mem: &[u8], cpu: Cpu) {
     let registers = cpu.registers;
     let pc = registers.pc;
-    sentences::tracing(mem, pc.0, registers);
-    sentences::not_run(registers.f);
+    sentences::tracing(host, mem, pc.0, registers);
+    sentences::not_run(host, registers.f);
 }
 
 // How many steps come before the last ones.
@@ -204,7 +212,7 @@ fn left_out(steps: u64, last: u64) -> u64
 }
 
 // The step at which the watch ended, and up to sixteen before it: run once more, from the memory as it was.
-fn print_last_steps(cpu: Cpu, old: &mut [u8], steps: u64, astray: bool) {
+fn print_last_steps(host: &Host, cpu: Cpu, old: &mut [u8], steps: u64, astray: bool) {
     let shown = if astray { 16 } else { 17 };
     let unshown = left_out(steps, shown);
     let held = Held {
@@ -218,32 +226,40 @@ fn print_last_steps(cpu: Cpu, old: &mut [u8], steps: u64, astray: bool) {
         held: held,
     };
     let mut pcs = [0u64; NOTED];
-    sentences::last_steps();
-    show_head(true);
-    let far = pieces(cpu, old, unshown, unseen(held), &mut pcs);
+    sentences::last_steps(host);
+    show_head(host, true);
+    let far = pieces(host, cpu, old, unshown, unseen(held), &mut pcs);
     let here = far.cpu;
-    let end = pieces(here, old, steps - unshown, view, &mut pcs);
+    let end = pieces(host, here, old, steps - unshown, view, &mut pcs);
     if astray {
         let there = end.cpu;
-        print_not_run(old, there);
+        print_not_run(host, old, there);
     }
 }
 
-fn print_unless_traced(trace: bool, cpu: Cpu, old: &mut [u8], steps: u64, astray: bool) {
+fn print_unless_traced(
+    host: &Host,
+    trace: bool,
+    cpu: Cpu,
+    old: &mut [u8],
+    steps: u64,
+    astray: bool,
+) {
     if !trace {
-        print_last_steps(cpu, old, steps, astray);
+        print_last_steps(host, cpu, old, steps, astray);
     }
 }
 
 // A trace has shown all steps but the one that was not run.
-fn print_rest(traced: bool, mem: &[u8], cpu: Cpu) {
+fn print_rest(host: &Host, traced: bool, mem: &[u8], cpu: Cpu) {
     if traced {
-        print_not_run(mem, cpu);
+        print_not_run(host, mem, cpu);
     }
 }
 
 // How the watch ended, or else the run.
 fn print_seen(
+    host: &Host,
     seen: Seen,
     cpu: Cpu,
     mem: &[u8],
@@ -258,14 +274,14 @@ fn print_seen(
     let registers = end.registers;
     let pc = registers.pc;
     if !ends_watch(why) {
-        print_end(far, mem, steps, pcs);
+        print_end(host, far, mem, steps, pcs);
         return;
     }
-    print_why(why, seen.home, pc.0);
-    print_unless_traced(trace, cpu, old, far.steps, is_stray(why));
-    print_rest(trace & is_stray(why), mem, end);
-    sentences::report(far.steps, far.cycles, registers);
-    sentences::interrupts(end.ime, end.latch);
+    print_why(host, why, seen.home, pc.0);
+    print_unless_traced(host, trace, cpu, old, far.steps, is_stray(why));
+    print_rest(host, trace & is_stray(why), mem, end);
+    sentences::report(host, far.steps, far.cycles, registers);
+    sentences::interrupts(host, end.ime, end.latch);
 }
 
 fn status_of_watch(why: Why, home: bool, status: u8) -> u8
@@ -295,6 +311,7 @@ fn unless_refused(passes: bool, status: u8) -> u8
 
 // Its marks are all starts that are met from the first address on, also in a window that the screen refuses.
 fn watching_in(
+    host: &Host,
     line: Line,
     mem: &mut [u8],
     old: &mut [u8],
@@ -307,25 +324,25 @@ fn watching_in(
     let held = view.held;
     let first = Addr(line.address(Part::First, 0));
     let last = line.address(Part::Last, 0);
-    sentences::screened();
-    let verdict = verdict_told(line, mem, marks, first.0, last, held, env);
+    sentences::screened(host);
+    let verdict = verdict_told(host, line, mem, marks, first.0, last, held, env);
     mark_starts(mem, first, marks);
     let cpu = started(line);
     let passes = verdict.number() == 0;
-    print_proved(passes, cpu, first, marks);
-    show_head(view.trace);
+    print_proved(host, passes, cpu, first, marks);
+    show_head(host, view.trace);
     let mut pcs = [0u64; NOTED];
-    let seen = watched(cpu, mem, budget(line), first, marks, view, &mut pcs);
-    print_seen(seen, cpu, mem, old, budget(line), view.trace, &pcs);
+    let seen = watched(host, cpu, mem, budget(line), first, marks, view, &mut pcs);
+    print_seen(host, seen, cpu, mem, old, budget(line), view.trace, &pcs);
     let far = seen.far;
     let why = seen.why;
     let cut = far.cut;
     let last = far.last;
     let status = status_of_watch(why, seen.home, end_status(cut, last));
-    saved(line, mem, cut, unless_refused(passes, status))
+    saved(host, line, mem, cut, unless_refused(passes, status))
 }
 
-pub fn watching(line: Line, mem: &mut [u8], held: Held, env: Env) -> u8
+pub fn watching(host: &Host, line: Line, mem: &mut [u8], held: Held, env: Env) -> u8
     ensures { Leaves (budget line) (started line) mem.old mem.new }
 {
     let first = line.address(Part::First, 0);
@@ -336,9 +353,9 @@ pub fn watching(line: Line, mem: &mut [u8], held: Held, env: Env) -> u8
         stops: env.tells,
         held: held,
     };
-    let mut old = io::large_buffer();
+    let mut old = [0u8; 65536];
     put(&mut old, 0, mem);
-    let mut marks = io::large_buffer();
+    let mut marks = [0u8; 65536];
     let n = within(&marks, behind(last, first) + 1);
-    watching_in(line, mem, &mut old, &mut marks[..n], view, env)
+    watching_in(host, line, mem, &mut old, &mut marks[..n], view, env)
 }

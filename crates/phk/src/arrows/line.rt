@@ -3,6 +3,7 @@ ghost use Rattle.std.specs.Prelude.{◌≡◌, ◌+◌, ◌*◌};
 
 use crate::arrows::slots::SLOTS;
 use crate::page::say;
+use crate::said::Host;
 use crate::sentences::{after, byte};
 use map::lanes::{crosses, lane_at, row_at};
 use map::opcode::length_of;
@@ -156,7 +157,7 @@ pub fn put_start(mem: &[u8], a: u16, line: &mut [u8], left: usize) {
 }
 
 // Without the blanks at its end, but so many columns at least.
-pub fn print_line(line: &[u8], least: usize) {
+pub fn print_line(host: &Host, line: &[u8], least: usize) {
     let mut end = least;
     let mut i = least;
     while i < line.len() {
@@ -165,5 +166,5 @@ pub fn print_line(line: &[u8], least: usize) {
         }
         i += 1;
     }
-    say(1, line, end);
+    say(host, 1, line, end);
 }

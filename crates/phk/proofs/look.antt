@@ -1,2 +1,0 @@
--- What the proofs of the functions that look at a file share.
-mod Asking
