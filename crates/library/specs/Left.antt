@@ -1,7 +1,6 @@
 -- What a call answers and leaves: the document's number, and every byte of every block. A malformed block is refused with nothing changed.
-use Rattle.std.specs.Prelude.{Bool, true, false, List, ℕ, eqb, length, if◌then◌else◌}
+use Rattle.std.specs.Prelude.{List, ℕ, eqb, length, if◌then◌else◌}
 use Rattle.sm83.specs.declared.MCycles.{MCycles}
-use Rattle.sm83.specs.declared.Cpu.{Cpu}
 use Rattle.definition.specs.Bus.{plain}
 use Rattle.outcome.specs.Numbers.{last_number}
 use Rattle.definition.specs.Run.{RunAnswer, run_for}

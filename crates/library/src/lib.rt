@@ -51,13 +51,7 @@ pub fn phk_step(state: &mut [u8], mem: &mut [u8], answer: &mut [u8]) -> u16
 }
 
 // Memory is never changed; the marks are as the screen leaves them.
-pub fn phk_screen(
-    mem: &[u8],
-    first: u16,
-    last: u16,
-    marks: &mut [u8],
-    answer: &mut [u8],
-) -> u8
+pub fn phk_screen(mem: &[u8], first: u16, last: u16, marks: &mut [u8], answer: &mut [u8]) -> u8
     ensures { left_by_screen result marks.new answer.new ≡ screen_blocks mem.now first last marks.old answer.old }
 {
     screen_blocks(mem, first, last, marks, answer)

@@ -1,10 +1,9 @@
 -- The blocks as the exported functions leave them: laws over plain variables, applied to what the callees ensure.
 use Rattle.std.proofs.Common.{if◌then◌else◌}
-use mathlib.Core.Path.{◌≡◌, refl, ap, sym, ◌∙◌}
-use mathlib.Core.Bool.{Bool, true, false}
+use mathlib.Core.Path.{◌≡◌, ap, sym, ◌∙◌}
+use mathlib.Core.Bool.{Bool}
 use mathlib.Core.List.{List}
 use Prim.Native.Nat.{ℕ}
-use lib.Dec.{eqb}
 use lib.ListN.{length}
 use borrow.Author.Tests.{eq-eqb, ne_eqb}
 use Rattle.sm83.specs.declared.Cpu.{Cpu}
@@ -17,7 +16,7 @@ use Rattle.blocks.specs.declared.state.StateRead.{StateRead}
 use Rattle.blocks.specs.declared.state.StateRead.TheVariants.{State, Malformed}
 use Rattle.blocks.specs.StateBlock.{state_of, state_bytes}
 use Rattle.blocks.specs.AnswerBlock.{answer_bytes}
-use Rattle.library.specs.Left.{malformed, Left, left, into_blocks, run_from, run_blocks}
+use Rattle.library.specs.Left.{malformed, left, into_blocks, run_from, run_blocks}
 
 module _ (budget : ℕ) (state memory block : List ℕ) where
   pub wrong_answer_block : (length block ≡ 24 → ⊥) → left malformed state memory block ≡ run_blocks budget state memory block
