@@ -1,4 +1,4 @@
--- No test yet, one test more, and none left.
+-- Shows the first finding: of no test yet, of one test more, and of all.
 use native.Mathlib.Omega.{arith}
 use Rattle.routine.specs.declared.Test.TheVariants.{Ends}
 use Rattle.routine.specs.Screen.{tests}

@@ -1,4 +1,4 @@
--- The invariant: the first finding of the walk and the tests so far.
+-- Shows what the loop keeps: the first finding of the walk and the tests so far.
 use Rattle.std.proofs.Common.{◌-◌, ◌≤◌, length, take}
 use Rattle.routine.specs.Screen.{tests}
 use Rattle.screen.proofs.Verdicts.{Found}

@@ -1,4 +1,4 @@
--- The walk and the tests after it decide; the marks stay as the walk left them, or are cleared.
+-- Shows that the walk and the tests after it decide; the marks stay as the walk left them, or are cleared.
 use mathlib.Core.Path.{ap, ◌∙◌}
 use Prim.Native.Nat.{ℕ}
 use lib.ListN.{length, replicate}

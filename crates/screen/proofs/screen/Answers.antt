@@ -1,4 +1,4 @@
--- One of the tests before the walk refuses, or the window is judged.
+-- Shows the screen: one of the tests before the walk refuses, or the window is judged.
 use native.Mathlib.Omega.{arith}
 use Rattle.routine.proofs.Before.{wrong_memory, reversed, too_long, wrong_marks}
 use Rattle.screen.proofs.Whole.{early, late}

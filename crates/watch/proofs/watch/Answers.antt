@@ -1,4 +1,4 @@
--- The step is done, and says why.
+-- Shows that the step is done, and says why; that nothing is done at no marked start the check finds itself.
 use Rattle.watch.proofs.OneStep.{stepped}
 use Rattle.watch.proofs.watch.Goals as goal
 

@@ -1,4 +1,4 @@
--- Each arm is right by a computed test over all 256 bytes, as the screen's match on an opcode is.
+-- Shows each arm by a computed test over all 256 bytes, as the screen's match on an opcode is shown.
 use mathlib.Core.Path.{◌≡◌, refl}
 use mathlib.Core.Bool.{not}
 use mathlib.Core.List.{List, []}

@@ -1,4 +1,4 @@
--- After the end of the walk, at the refused byte, or elsewhere.
+-- Shows a byte after the end of the walk, at the refused byte, or elsewhere.
 use Rattle.map.specs.Kinds.{cell_at}
 use Rattle.map.proofs.kinds.Drawing.{refused_here, not_here}
 use Rattle.map.proofs.kinds.cell_at.Goals as goal

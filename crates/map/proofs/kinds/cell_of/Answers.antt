@@ -1,4 +1,4 @@
--- An operand byte, or a start.
+-- Shows an operand byte, or a start.
 use native.Mathlib.Omega.{arith}
 use borrow.Author.Tests.{lt-ltb, le-ltb}
 use Rattle.map.specs.Kinds.{cell_of}

@@ -1,4 +1,4 @@
--- Each turn is one byte more.
+-- Shows that each turn draws one byte more.
 use mathlib.Core.Path.{ap, ◌∙◌}
 use lib.ListN.{length}
 use Rattle.map.specs.declared.kinds.Stop.{Stop}

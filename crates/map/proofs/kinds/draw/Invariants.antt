@@ -1,4 +1,4 @@
--- The invariant says how much is drawn.
+-- Shows what the loop keeps: how much is drawn.
 use Rattle.std.proofs.Common.{◌-◌, length}
 use Rattle.map.proofs.kinds.Drawing.{Drawn}
 use Rattle.map.proofs.kinds.draw.Given as goal

@@ -1,4 +1,4 @@
--- A free lane is found, a taken one is passed over, or none is left.
+-- Shows that a free lane is found, a taken one is passed over, or none is left.
 use mathlib.Core.Path.{sym, ap, ◌∙◌}
 use mathlib.Core.Bool.{not}
 use Rattle.map.proofs.lanes.Searching.{none_left, free_here, taken_here}

@@ -1,4 +1,4 @@
--- The invariant: from this lane on the search comes to the same lane as from the first.
+-- Shows what the loop keeps: from this lane on the search comes to the same lane as from the first.
 use Rattle.std.proofs.Common.{◌≡◌, ◌-◌}
 use Rattle.map.specs.Lanes.{is_taken, lowest_free, free_lane}
 use Rattle.map.proofs.lanes.free_lane.Given as goal

@@ -1,4 +1,4 @@
--- No arrow yet, and one more.
+-- Shows no arrow yet, and one more.
 use mathlib.Core.Path.{sym}
 use native.Mathlib.Omega.{arith}
 use Rattle.map.proofs.lanes.Searching.{none_yet, one_more}

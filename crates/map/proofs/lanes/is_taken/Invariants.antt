@@ -1,4 +1,4 @@
--- The invariant: whether one of the arrows so far holds the lane.
+-- Shows what the loop keeps: whether one of the arrows so far holds the lane.
 use Rattle.std.proofs.Common.{◌≡◌, ◌-◌, ◌≤◌, length}
 use Rattle.map.specs.Lanes.{holds_lane, some_below}
 use Rattle.map.proofs.lanes.is_taken.Given as goal

@@ -1,4 +1,4 @@
--- The class of the opcode decides where control may go.
+-- Shows that the class of the opcode decides where control may go.
 use Rattle.map.specs.Opcode.{is_jump}
 use Rattle.map.proofs.opcode.is_jump.Goals as goal
 

@@ -1,4 +1,4 @@
--- Found at the top, or one fewer is left, or none.
+-- Shows each turn: found at the top, or one fewer is left, or none.
 use mathlib.Core.Path.{sym, ◌∙◌}
 use native.Mathlib.Omega.{arith}
 use Rattle.map.proofs.passing.Searching.{none_below, found_at_top, not_at_top}

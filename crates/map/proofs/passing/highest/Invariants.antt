@@ -1,4 +1,4 @@
--- The invariant: of the addresses that are left the highest is the same as of all.
+-- Shows what the loop keeps: of the addresses that are left the highest is the same as of all.
 use Rattle.std.proofs.Common.{◌≡◌, ◌≤◌}
 use Rattle.map.specs.Passing.{highest}
 use Rattle.map.proofs.passing.highest.Given as goal

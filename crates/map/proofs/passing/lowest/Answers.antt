@@ -1,4 +1,4 @@
--- Found here, or further on, or nowhere.
+-- Shows each turn: found here, or further on, or nowhere.
 use mathlib.Core.Path.{sym, ◌∙◌}
 use Rattle.map.proofs.passing.Searching.{none_left, found_here, not_here}
 use Rattle.map.proofs.passing.lowest.Goals as goal

@@ -1,4 +1,4 @@
--- The invariant: from here on the search comes to the same answer as from its start.
+-- Shows what the loop keeps: from here on the search comes to the same answer as from its start.
 use Rattle.std.proofs.Common.{◌≡◌, ◌-◌}
 use Rattle.map.specs.Passing.{lowest}
 use Rattle.map.proofs.passing.lowest.Given as goal

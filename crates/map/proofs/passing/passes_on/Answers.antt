@@ -1,4 +1,4 @@
--- The marks that are lent are as many as the window's bytes.
+-- Shows the verdict on marks that are as many as the window's bytes.
 use mathlib.Core.Path.{◌∙◌}
 use lib.Seq.{length-take-le}
 use Rattle.map.proofs.passing.Lent.{as_screened}

@@ -1,4 +1,4 @@
--- No last address from the first on is below one that is not above it; else the highest of those between.
+-- Shows that no last address from the first on is below one that is not above it; else the highest of those between is found.
 use mathlib.Core.Path.{sym}
 use native.Mathlib.Omega.{arith}
 use Rattle.map.proofs.passing.Searching.{none_below}

@@ -1,4 +1,4 @@
--- One byte more, and at the target its start or the one before it.
+-- Shows one byte more, and at the target its start or the one before it.
 use mathlib.Core.Path.{sym, ◌∙◌}
 use Rattle.map.proofs.place.Walking.{goes_on, at_start, inside}
 use Rattle.map.proofs.place.holder.Goals as goal

@@ -1,4 +1,4 @@
--- The invariant: from here on the walk comes to the same instruction as from the first address.
+-- Shows what the loop keeps: from here on the walk comes to the same instruction as from the first address.
 use Rattle.std.proofs.Common.{◌≡◌, ◌-◌}
 use Rattle.map.specs.Place.{holder}
 use Rattle.map.proofs.place.holder.Given as goal

@@ -1,4 +1,4 @@
--- Outside the window, at a start, or inside the instruction that holds the target.
+-- Shows a target outside the window, at a start, or inside the instruction that holds it.
 use borrow.Author.Tests.{eq-eqb, ne_eqb}
 use Rattle.map.specs.Place.{place_of}
 use Rattle.map.proofs.place.place_of.Goals as goal

@@ -1,4 +1,4 @@
--- One more index adds to each count what its test says.
+-- Shows that one more index adds to each count what its test says.
 use mathlib.Core.Path.{◌≡◌, sym, ap, ap₂, ◌∙◌}
 use mathlib.Core.Bool.{Bool, ◌&&◌}
 use mathlib.Core.List.{List}

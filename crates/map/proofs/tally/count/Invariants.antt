@@ -1,4 +1,4 @@
--- The invariant: both counts are those of the indexes so far.
+-- Shows what the loop keeps: both counts are those of the indexes so far.
 use Rattle.std.proofs.Common.{◌≡◌, ◌-◌, ◌≤◌, length}
 use Rattle.map.specs.Counts.{starts_at, jumps_at, how_many}
 use Rattle.map.proofs.tally.count.Given as goal

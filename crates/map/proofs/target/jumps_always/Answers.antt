@@ -1,4 +1,4 @@
--- The class of the opcode decides whether control goes on.
+-- Shows that the class of the opcode decides whether control goes on.
 use Rattle.map.specs.Target.{jumps_always}
 use Rattle.map.proofs.target.jumps_always.Goals as goal
 

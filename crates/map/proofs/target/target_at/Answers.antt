@@ -1,4 +1,4 @@
--- Each arm by its class: JP to the word, JR to the offset, the rest nowhere.
+-- Shows each arm by its class: JP to the word, JR to the offset, the rest nowhere.
 use mathlib.Core.Path.{refl}
 use Rattle.routine.specs.declared.Class.TheVariants.{Basic, Barred, Return, ReturnIf, Absolute, AbsoluteIf, Relative, RelativeIf, Call, CallIf}
 use Rattle.map.proofs.target.Aimed.{aimed, aimed_at}

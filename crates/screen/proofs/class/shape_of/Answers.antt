@@ -1,4 +1,4 @@
--- Each arm is right by a computed test over all 256 bytes: the single numbers in the order of the arms, then the ranges, where a byte is no single number.
+-- Shows each arm by a computed test over all 256 bytes: the single numbers in the order of the arms, then the ranges, where a byte is no single number.
 use mathlib.Core.Path.{◌≡◌, refl}
 use mathlib.Core.Bool.{not}
 use mathlib.Core.List.{List, []}

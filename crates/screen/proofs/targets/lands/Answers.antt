@@ -1,4 +1,4 @@
--- Each arm by the class: JP to the word, JR to the offset, the rest nowhere.
+-- Shows each arm by the class: JP to the word, JR to the offset, the rest nowhere.
 use mathlib.Core.Path.{ap, ◌∙◌}
 use mathlib.Core.Bool.{Bool}
 use Prim.Native.Nat.{ℕ}

@@ -1,4 +1,4 @@
--- One turn of the scan: a marked address that passes the test or one that is not marked leads on, one that fails is refused.
+-- Shows one turn of the scan: a marked address that passes the test or one that is not marked leads on, one that fails is refused.
 use mathlib.Core.Path.{sym, ap, ◌∙◌}
 use mathlib.Core.Bool.{not}
 use Prim.Native.Nat.{◌+◌}

@@ -1,4 +1,4 @@
--- The invariant: the scan from the first index on comes to the same as the scan from here on.
+-- Shows what the loop keeps: the scan from the first index on comes to the same as the scan from here on.
 use Rattle.std.proofs.Common.{◌≡◌, ◌+◌, ◌-◌, ◌≤◌, length}
 use Rattle.routine.specs.Screen.{is_marked, passes, refusal_of, scan_for}
 use Rattle.screen.proofs.targets.Scanning.{scan_from}

@@ -1,4 +1,4 @@
--- Each way out of the walk is a law of how far it has come.
+-- Shows each way out of the walk, as a law of how far it has come.
 use mathlib.Core.Path.{◌≡◌, refl, sym, ap, ◌∙◌}
 use mathlib.Core.List.{List}
 use Prim.Native.Nat.{ℕ}

@@ -1,4 +1,4 @@
--- The invariant says how far the walk has come.
+-- Shows how far the walk has come, and that it ends: its measure is the bytes that are left.
 use Rattle.std.proofs.Common.{◌-◌}
 use Rattle.screen.proofs.walk.Reached.{Reached}
 use Rattle.screen.proofs.walk.walk.Given as goal

@@ -1,4 +1,4 @@
--- The invariant: as many zeros as turns, then the marks as they came.
+-- Shows what the loop keeps: as many zeros as turns, then the marks as they came.
 use Rattle.std.proofs.Common.{◌≡◌, ◌-◌, ◌≤◌, length, replicate, drop, ◌++◌}
 use Rattle.screen.proofs.window.clear.Given as goal
 

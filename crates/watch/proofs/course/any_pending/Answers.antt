@@ -1,4 +1,4 @@
--- One of the five bits is set exactly where the number is not 0.
+-- Shows that one of the five bits is set exactly where the number is not 0.
 use Rattle.watch.proofs.course.Points.{some_bit}
 use Rattle.watch.proofs.course.any_pending.Goals as goal
 

@@ -1,4 +1,4 @@
--- By the two tests, as the definition has them.
+-- Shows the course by the two tests, as the definition has them.
 use Rattle.watch.proofs.course.Points.{dispatches, executes, rests}
 use Rattle.watch.proofs.course.course_of.Goals as goal
 

@@ -1,4 +1,4 @@
--- Each arm is right by a computed test over all 256 bytes, whatever the flags are.
+-- Shows each arm by a computed test over all 256 bytes, whatever the flags are.
 use mathlib.Core.Path.{◌≡◌, refl, ◌∙◌}
 use mathlib.Core.Bool.{Bool, not}
 use mathlib.Core.List.{List, []}

@@ -1,4 +1,4 @@
--- Each arm answers for its place.
+-- Shows that each arm answers for its place.
 use Rattle.watch.specs.Places.{addresses_at}
 use Rattle.watch.proofs.place.writes_at.Goals as goal
 

@@ -1,4 +1,4 @@
--- A computed test over all 256 bytes.
+-- Shows the test by computing it over all 256 bytes.
 use native.Mathlib.Omega.{arith}
 use Rattle.watch.proofs.place.Addresses.{on_hl}
 use Rattle.watch.proofs.place.writes_hl.Goals as goal

@@ -1,4 +1,4 @@
--- Each turn is one byte more.
+-- Shows that each turn marks one byte more.
 use mathlib.Core.Path.{ap, ◌∙◌}
 use Rattle.watch.specs.Starts.{turn_of}
 use Rattle.watch.proofs.starts.Walking.{onward, ended}

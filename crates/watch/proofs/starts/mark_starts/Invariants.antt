@@ -1,4 +1,4 @@
--- The invariant says how much is marked.
+-- Shows what the loop keeps: how much is marked.
 use Rattle.std.proofs.Common.{◌-◌, length}
 use Rattle.watch.proofs.starts.Walking.{Marking}
 use Rattle.watch.proofs.starts.mark_starts.Given as goal

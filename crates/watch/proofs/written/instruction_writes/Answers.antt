@@ -1,4 +1,4 @@
--- The place of the opcode at PC, from the registers after the fetch.
+-- Shows the place of the opcode at PC, from the registers after the fetch.
 use Rattle.watch.specs.Written.{instruction_writes}
 use Rattle.watch.proofs.written.instruction_writes.Goals as goal
 

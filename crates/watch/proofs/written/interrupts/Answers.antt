@@ -1,4 +1,4 @@
--- An interrupt is taken where the course is a dispatch, and nowhere else.
+-- Shows that an interrupt is taken where the course is a dispatch, and nowhere else.
 use mathlib.Core.Path.{sym, ap}
 use mathlib.Core.Bool.{not}
 use Rattle.watch.proofs.written.Stepped.{by_course}

@@ -1,4 +1,4 @@
--- What the course comes to, which is what the step writes.
+-- Shows what the course comes to, which is what the step writes.
 use mathlib.Core.Path.{sym, ◌∙◌}
 use Rattle.watch.proofs.written.Stepped.{by_course}
 use Rattle.watch.proofs.written.next_writes.Goals as goal
