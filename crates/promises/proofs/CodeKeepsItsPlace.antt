@@ -112,7 +112,7 @@ module _ (call : ScreenCall) (passes : call.verdict ≡ Passes) (address : last_
     abbrev budget : ℕ → ℕ
     budget j = budget_of (run j)
 
-    -- each step of call j stays in the routine, and of the memory that it left a host changes what it likes before the next, but not the routine (no call is ever pending: `runs-left-alone`)
+    -- each step of call j stays in the routine, and of the memory that it left a host changes what it likes before the next, but not the routine (no call is ever pending: `runs_left_alone`)
     pub record RunCallGoesOn (j : ℕ) : Type 0 where
       pub stays : RunStaysToTheEnd plain first n budget memory (start 0) [] j
       pub host : SameWindow plain first n (answered (run j)).memory (memory (suc j))

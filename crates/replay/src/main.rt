@@ -11,10 +11,11 @@ mod windows;
 
 use crate::report::report;
 use rounds::replay;
-use said::{note, say, say_number};
+use said::{not_opened, note, say, say_number};
 use std::fs::File;
+use std::env::Env;
+use std::io;
 use std::io::Read;
-use std::{env, io};
 
 fn replay_file(rt: &HostRuntime, file: &[u8]) {
     let mut mem = [0u8; 131072];
@@ -59,17 +60,24 @@ fn replay_from(rt: &HostRuntime, file: &mut File, room: &mut [u8; 1048576]) -> i
 }
 
 fn main(rt: HostRuntime) -> io::Result<()> {
-    let path = match env::args(&rt)?.nth(1) {
-        Some(path) => path,
-        None => {
-            note(&rt, b"replay: name the sample: replay FILE\n");
-            return Ok(());
-        }
+    let mut word = [0u8; 4096];
+    let n = match rt.arg(1, &mut word) {
+        Ok(n) => n,
+        Err(_) => 0,
     };
-    let mut file = match File::open(&rt, path.as_str()) {
+    let path = match str::from_utf8(&word[..n]) {
+        Ok(path) => path,
+        Err(_) => "",
+    };
+    if path.is_empty() {
+        note(&rt, b"replay: name the sample: replay FILE\n");
+        return Ok(());
+    }
+    let mut file = match File::open(&rt, path) {
         Ok(file) => file,
         Err(e) => {
-            return eprintln!(rt; "{path}: {e}");
+            not_opened(&rt, path, e);
+            return Ok(());
         }
     };
     let mut room = [0u8; 1048576];

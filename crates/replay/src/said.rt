@@ -1,5 +1,8 @@
 // What a replay says as it goes: of a record with a name, of a record that differs, and of a sample that is not whole.
+ghost use Rattle.std.specs.Prelude.{◌≤◌, length};
+
 use records::layout::{NAME_LENGTH, wide};
+use std::io;
 use std::io::Write;
 
 // What standard output does not take is lost.
@@ -14,6 +17,33 @@ pub fn say_number(rt: &HostRuntime, number: u64) {
 // The same on standard error.
 pub fn note(rt: &HostRuntime, words: &[u8]) {
     rt.stderr().write_all(words).is_ok();
+}
+
+// How long the words are in front of the system's number of an error.
+fn words_in(said: &[u8]) -> usize
+    ensures { result ≤ length said.now }
+{
+    for i in 0..said.len() {
+        if said[i..].starts_with(b" (os error ") {
+            return i;
+        }
+    }
+    said.len()
+}
+
+// Why a file was not opened: its name, and the system's words.
+pub fn not_opened(rt: &HostRuntime, path: &str, e: io::Error) {
+    let mut said = [0u8; 256];
+    let room = said.len();
+    let mut rest: &mut [u8] = &mut said;
+    let _ = write!(rest, "{e}");
+    let left = rest.len();
+    let n = if left < room { room - left } else { 0 };
+    let n = words_in(&said[..n]);
+    note(rt, path.as_bytes());
+    note(rt, b": ");
+    note(rt, &said[..n]);
+    note(rt, b"\n");
 }
 
 fn say_with(rt: &HostRuntime, words: &[u8], number: usize) {
