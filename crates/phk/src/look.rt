@@ -1,6 +1,8 @@
 // What stands at a path, before anything is written there. A path that C cannot be handed, for it is longer than 4,095 bytes, names nothing;
 // nor does one that is no UTF-8.
-ghost use Rattle.std.specs.Prelude.{◌≡◌, ◌<◌};
+ghost use Rattle.std.specs.Prelude.{◌≡◌, ◌<◌, MatchResult, Some, pos};
+ghost use Rattle.std.specs.IoError.{raw_os_error};
+ghost use Rattle.std.specs.Str.{IsUtf8};
 ghost use Rattle.phk.specs.Looking.{Ended, kept_of};
 
 use crate::said::Host;
@@ -84,8 +86,10 @@ fn answered(asked: io::Result<Metadata>) -> Looked {
     }
 }
 
-// A path as the system is handed it.
-pub fn text_of(path: &[u8]) -> io::Result<&str> {
+// A path as the system is handed it: text, of the same bytes.
+pub fn text_of(path: &[u8]) -> io::Result<&str>
+    ensures { MatchResult result (λ s. (s.now ≡ path.now) × IsUtf8 path.now) (λ e. ¬ (IsUtf8 path.now) × (raw_os_error e ≡ Some (pos 84))) }
+{
     match std::str::from_utf8(path) {
         Ok(text) => Ok(text),
         Err(_) => Err(Error::from_raw_os_error(EILSEQ)),
