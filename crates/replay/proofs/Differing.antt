@@ -1,5 +1,5 @@
 -- How the count of differences goes on: one record judged, one that is not whole, none left, a rest.
-use Rattle.std.proofs.Common.{◌≡◌, ℕ, zero, suc, ◌+◌, ◌-◌, ◌<◌, ◌≤◌, Bool, true, false, not, eqb, List, length, take, drop, sym, refl, ap, ◌∙◌, ap₂, arith, length-drop, drop-drop, eq-eqb, ne_eqb, le-leb}
+use Rattle.std.proofs.Common.{◌≡◌, ℕ, zero, suc, ◌+◌, ◌-◌, ◌<◌, ◌≤◌, not, List, length, take, drop, sym, ap, ◌∙◌, ap₂, arith, length-drop, drop-drop, eq-eqb, ne_eqb, le-leb}
 use borrow.Author.Tests.{lt-leb}
 use Rattle.sm83.specs.Basics.{bit}
 use Rattle.blocks.specs.Bytes.{word_at}

@@ -1,5 +1,5 @@
 -- The tests that come before a comparison, each way out of them a law over plain variables.
-use Rattle.std.proofs.Common.{◌≡◌, ℕ, ◌+◌, ◌*◌, ◌<◌, ◌≤◌, Bool, true, false, List, length, sym, refl, ◌∙◌, ap₂, arith, eq-eqb, ne_eqb, le-leb}
+use Rattle.std.proofs.Common.{◌≡◌, ℕ, ◌+◌, ◌*◌, ◌<◌, ◌≤◌, Bool, false, List, length, sym, ◌∙◌, ap₂, arith, eq-eqb, ne_eqb, le-leb}
 use borrow.Author.Tests.{lt-leb}
 use Rattle.records.specs.Record.{bytes_at, head_size, kind_of, name_length, memory_length, listed, changed}
 use Rattle.replay.specs.Told.{asked, told, same_left}

@@ -1,5 +1,5 @@
 -- What it means that the core agrees with a record: what it answers and leaves is, value by value, what the record says.
-use Rattle.std.proofs.Common.{◌≡◌, ℕ, Bool, true, eqb, List, length, refl, ◌∙◌, ap₂, eqb-true}
+use Rattle.std.proofs.Common.{◌≡◌, ℕ, true, eqb, List, length, ◌∙◌, ap₂, eqb-true}
 use Rattle.library.specs.Left.{Left, left}
 use Rattle.text.specs.Same.{same_bytes}
 use Rattle.records.specs.Record.{memory_length}

@@ -1,5 +1,5 @@
 -- One count more, met or not.
-use Rattle.std.proofs.Common.{◌≡◌, ℕ, zero, suc, ◌+◌, List, get_or, sym, ap, ◌∙◌, add-one, arith, eq-eqb, ne_eqb}
+use Rattle.std.proofs.Common.{◌≡◌, ℕ, ◌+◌, List, get_or, ap, add-one, arith, eq-eqb, ne_eqb}
 use Rattle.replay.specs.Met.{met}
 
 module _ (counts : List ℕ) (i n : ℕ) (so_far : n ≡ met i counts) where

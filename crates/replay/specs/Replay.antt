@@ -1,5 +1,5 @@
 -- When the core agrees with a record, and how many records of a sample it does not agree with.
-use Rattle.std.specs.Prelude.{ℕ, zero, suc, ◌+◌, ◌*◌, ◌≤◌, Bool, true, false, not, ◌&&◌, leb, List, length, take, drop, ◌==◌, nat_eq, nat_le, if◌then◌else◌}
+use Rattle.std.specs.Prelude.{ℕ, zero, suc, ◌+◌, ◌*◌, ◌≤◌, Bool, false, not, leb, List, length, take, drop, ◌==◌, nat_eq, nat_le, if◌then◌else◌}
 use Rattle.sm83.specs.Basics.{bit}
 use Rattle.blocks.specs.Bytes.{word_at}
 use Rattle.records.specs.Record.{head_size, kind_of, name_length, memory_length, changed, changes_at}
