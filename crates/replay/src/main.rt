@@ -12,8 +12,8 @@ mod windows;
 use crate::report::report;
 use rounds::replay;
 use said::{not_opened, note, say, say_number};
-use std::fs::File;
 use std::env::Env;
+use std::fs::File;
 use std::io;
 use std::io::Read;
 

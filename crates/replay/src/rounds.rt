@@ -64,7 +64,8 @@ pub fn replay(
         at = end;
         i += 1;
     }
-    if at < file.len() {
+    let more = at < file.len();
+    if more {
         say_rest(rt, at);
         return differ + 1;
     }

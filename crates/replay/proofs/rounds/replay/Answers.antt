@@ -20,16 +20,16 @@ loop-i-preserved c =
       one_more file at.at _ at.i at.differ at.invariant.3 c.loop-i-test.true c.front_size-size.ensures.size c.if-size-eq0.false c.round-one.ensures.same,
     )
 
-pub returns-then-at-file : goal.returns-then-at-file
-returns-then-at-file c =
+pub returns-then-more : goal.returns-then-more
+returns-then-more c =
     let file = c.args.file.now in
     let at = c.loop-i in
     in_all file c.if-file-lt2.false c.word_at-count.ensures
-    (ends_with_rest file at.at _ at.i at.differ at.invariant.3 c.loop-i-test.false c.if-at-file.true)
+    (ends_with_rest file at.at _ at.i at.differ at.invariant.3 c.loop-i-test.false c.if-more.true)
 
 pub returns : goal.returns
 returns c =
     let file = c.args.file.now in
     let at = c.loop-i in
     in_all file c.if-file-lt2.false c.word_at-count.ensures
-    (ends file at.at _ at.i at.differ at.invariant.3 c.loop-i-test.false c.if-at-file.false)
+    (ends file at.at _ at.i at.differ at.invariant.3 c.loop-i-test.false c.if-more.false)
