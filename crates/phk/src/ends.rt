@@ -4,7 +4,7 @@ ghost use Rattle.phk.specs.Status.{bad_file, refusal_in, refusal_of, status_for,
 
 use crate::far::{Cut, Far};
 use crate::said;
-use crate::said::{Host, status_of};
+use crate::said::{Host, is_read, status_of};
 use crate::sentences::{after, byte};
 use commandline::grammar::Part;
 use commandline::line::Line;
@@ -127,11 +127,11 @@ fn keeps_file(cut: Cut) -> bool
     }
 }
 
-// The memory as it stands at the end, if --out was given.
+// The memory as it stands at the end, if --out was given and what the run came to could be said.
 pub fn saved(host: &Host, line: Line, mem: &[u8], cut: Cut, status: u8) -> u8
     ensures { (result ≢ bad_file) → result ≡ status }
 {
-    if line.has(Part::Out) & keeps_file(cut) {
+    if line.has(Part::Out) & keeps_file(cut) & is_read(host) {
         let saved = crate::saving::save(host, line, mem);
         return unless_lost(saved, status);
     }

@@ -12,7 +12,7 @@ use crate::ends::{
     show_head, show_progress,
 };
 use crate::far::{Cut, Far, NOTED, begun, cut_as, cut_unless, farther, over, piece_size};
-use crate::said::{Env, Host};
+use crate::said::{Env, Host, is_read};
 use crate::start::{budget, started};
 use crate::view::{Held, View, asked, is_outside, is_single, unseen};
 use commandline::grammar::Part;
@@ -34,12 +34,15 @@ pub fn piece(host: &Host, far: Far, mem: &mut [u8], budget: u16, trace: bool) ->
     cut_unless(begun & ended, farther(far, x))
 }
 
-// A run that has not stopped by itself is cut where a person asks for it, and before an instruction that is not in the image.
+// A run that has not stopped by itself is cut where nobody reads what it says or a person asks for it, and before an instruction that is not in the image.
 pub fn looked(host: &Host, far: Far, mem: &[u8], view: View) -> Far
     ensures { result ≡ cut_as far result.cut }
 {
     if over(far) {
         return far;
+    }
+    if !is_read(host) {
+        return cut_as(far, Cut::Lost);
     }
     if asked(host, view.stops) {
         return cut_as(far, Cut::ByHand);

@@ -20,16 +20,18 @@ pub fn within(out: &[u8], n: usize) -> usize
 
 // All of it, or it is lost; of standard error nobody can be told.
 fn write(host: &Host, fd: i32, text: &[u8]) -> bool {
-    if fd == 1 {
-        return match host.rt.stdout().write_all(text) {
-            Ok(()) => true,
-            Err(e) => {
-                lose(host, e);
-                false
-            }
-        };
+    let written = if fd == 1 {
+        host.rt.stdout().write_all(text)
+    } else {
+        host.rt.stderr().write_all(text)
+    };
+    match written {
+        Ok(()) => true,
+        Err(e) => {
+            lose(host, fd, e);
+            false
+        }
     }
-    host.rt.stderr().write_all(text).is_ok()
 }
 
 pub fn out(host: &Host, text: &[u8]) {

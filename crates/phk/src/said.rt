@@ -23,6 +23,9 @@ pub const LOST_OUTPUT: u8 = 5;
 
 pub const STOPPED_BY_HAND: u8 = 130;
 
+// 128 and the number of the signal that ends a program whose reader goes away.
+const READER_GONE: u8 = 141;
+
 // The launcher's word comes first and begins with @: then c, colours on standard output, or -; p, progress on standard error, or -; s,
 // there is a launcher, which hears the status and tells when to stop; w, lines may have 100 columns, or -. `first` is the first word
 // of the command line proper.
@@ -35,12 +38,13 @@ pub struct Env {
     pub wide: bool,
 }
 
-// What standard output has taken: all; not all, since its disk is full, or for another reason.
+// What standard output has taken: all; not all, since its disk is full, or for another reason; or the reader of what is said went away.
 #[derive(Clone, Copy)]
 pub enum Taken {
     All,
     DiskFull,
     NoMore,
+    NoReader,
 }
 
 // The system, by which all is read and written; what standard output has taken so far; and where the place of descriptor 5 can be read, if
@@ -61,12 +65,31 @@ pub fn hosted(rt: HostRuntime) -> Host {
     }
 }
 
-// Standard output takes no more.
-pub fn lose(host: &Host, e: io::Error) {
-    host.taken.set(match e.kind() {
-        ErrorKind::StorageFull => Taken::DiskFull,
-        _ => Taken::NoMore,
-    });
+// Whether anybody still reads what is said.
+pub fn is_read(host: &Host) -> bool {
+    match host.taken.get() {
+        Taken::NoReader => false,
+        _ => true,
+    }
+}
+
+// Why a write failed. Of one to standard error only that its reader went away.
+fn taken_after(fd: i32, kind: ErrorKind) -> Taken {
+    match kind {
+        ErrorKind::BrokenPipe => Taken::NoReader,
+        ErrorKind::StorageFull if fd == 1 => Taken::DiskFull,
+        _ if fd == 1 => Taken::NoMore,
+        _ => Taken::All,
+    }
+}
+
+// What could not be written is noted. Behind a reader that went away there is nothing to note.
+pub fn lose(host: &Host, fd: i32, e: io::Error) {
+    match (host.taken.get(), taken_after(fd, e.kind())) {
+        (Taken::NoReader, _) => {}
+        (_, Taken::All) => {}
+        (_, now) => host.taken.set(now),
+    }
 }
 
 // How many words the program was given, its own name among them.
@@ -162,5 +185,6 @@ pub fn last_word(host: &Host, status: u8) -> u8 {
             );
             LOST_OUTPUT
         }
+        Taken::NoReader => READER_GONE,
     }
 }
