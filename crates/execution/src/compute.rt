@@ -21,14 +21,6 @@ use bus::Port;
 use instruction::Opcode;
 use sm83::{Addr, Cpu};
 
-// For PREFIX, which is never executed: no call of this is ever reached.
-fn never_executed(cpu: Cpu, port: Port) -> Worked
-    requires { ⊥ }
-    ensures { ⊥ }
-{
-    normal(cpu, port, 0)
-}
-
 // The match in the order of the Rust. The fetch takes the opcode behind PREFIX.
 pub fn compute(cpu: Cpu, port: Port, opcode: Opcode, src: u16, at: Addr, mem: &mut [u8]) -> Worked
     requires { Given mem.old (T (executable opcode)) }
@@ -91,6 +83,7 @@ pub fn compute(cpu: Cpu, port: Port, opcode: Opcode, src: u16, at: Addr, mem: &m
         Opcode::Halt => halt(cpu, port, mem),
         Opcode::Stop => stop(cpu, port),
         Opcode::Illegal => illegal(cpu, port, at),
-        Opcode::Prefix => never_executed(cpu, port),
+        // PREFIX is never executed: no call gets here
+        Opcode::Prefix => unreachable!(),
     }
 }

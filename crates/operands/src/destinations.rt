@@ -14,17 +14,6 @@ use instruction::OperandType;
 use sm83::state::with_registers;
 use sm83::{Addr, Cpu, CpuRegisters};
 
-// For an operand that is never written: no call of this is ever reached.
-fn never_written(cpu: Cpu, port: Port) -> Both
-    requires { ⊥ }
-    ensures { ⊥ }
-{
-    Both {
-        cpu: cpu,
-        port: port,
-    }
-}
-
 // The registers are put back into the state: no access, whatever memory holds.
 fn left(cpu: Cpu, port: Port, regs: CpuRegisters) -> Both
     ensures { Keeps (set_reg (λ _. regs)) cpu port tt result.cpu result.port }
@@ -83,9 +72,10 @@ pub fn write_operand(cpu: Cpu, port: Port, ty: OperandType, value: u16, mem: &mu
             regs.sp = sp;
             left(cpu, port, regs)
         }
-        OperandType::Imm8 => never_written(cpu, port),
-        OperandType::Imm8Signed => never_written(cpu, port),
-        OperandType::Imm16 => never_written(cpu, port),
+        // operands that are never written: no call gets here
+        OperandType::Imm8 => unreachable!(),
+        OperandType::Imm8Signed => unreachable!(),
+        OperandType::Imm16 => unreachable!(),
         OperandType::HighAddr8 => write_high(cpu, port, value, mem),
         OperandType::HighAddrC => store(cpu, port, high(regs.c), low, mem),
         OperandType::Addr16 => write_at16(cpu, port, value, mem),

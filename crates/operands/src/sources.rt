@@ -109,18 +109,6 @@ fn held(cpu: Cpu, port: Port, value: u16) -> Val16
     }
 }
 
-// For an operand that is never read: no call of this is ever reached.
-fn never_read(cpu: Cpu, port: Port) -> Val16
-    requires { ⊥ }
-    ensures { ⊥ }
-{
-    Val16 {
-        cpu: cpu,
-        port: port,
-        value: 0,
-    }
-}
-
 pub fn read_operand(cpu: Cpu, port: Port, ty: OperandType, mem: &mut [u8]) -> Val16
     requires { Given mem.old (T (readable ty)) }
     ensures { Runs (read_operand ty) cpu port mem.old result.value result.cpu result.port mem.new }
@@ -149,7 +137,8 @@ pub fn read_operand(cpu: Cpu, port: Port, ty: OperandType, mem: &mut [u8]) -> Va
         OperandType::HighAddr8 => read_high(cpu, port, mem),
         OperandType::HighAddrC => load(cpu, port, high(cpu.registers.c), mem),
         OperandType::Addr16 => read_at16(cpu, port, mem),
-        OperandType::Addr16Val16 => never_read(cpu, port),
+        // an operand that is never read: no call gets here
+        OperandType::Addr16Val16 => unreachable!(),
         OperandType::Implied => held(cpu, port, 0),
     }
 }
