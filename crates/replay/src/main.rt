@@ -63,16 +63,21 @@ fn main(rt: HostRuntime) -> io::Result<()> {
     let mut word = [0u8; 4096];
     let n = match rt.arg(1, &mut word) {
         Ok(n) => n,
-        Err(_) => 0,
+        Err(_) => {
+            note(&rt, b"replay: name the sample: replay FILE\n");
+            return Ok(());
+        }
     };
     let path = match str::from_utf8(&word[..n]) {
         Ok(path) => path,
-        Err(_) => "",
+        Err(_) => {
+            note(
+                &rt,
+                b"replay: the sample's name is no UTF-8: give it another name\n",
+            );
+            return Ok(());
+        }
     };
-    if path.is_empty() {
-        note(&rt, b"replay: name the sample: replay FILE\n");
-        return Ok(());
-    }
     let mut file = match File::open(&rt, path) {
         Ok(file) => file,
         Err(e) => {
