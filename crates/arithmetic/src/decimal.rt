@@ -6,7 +6,7 @@ ghost use Rattle.arithmetic.specs.Computed.{computed, byte_with};
 use crate::{Computed, flagged};
 use sm83::flags::{flag_c, flag_h, flag_n, weight};
 
-pub fn daa(a: u8, f: u8) -> Computed
+pub fn daa(a: u8, f: u8) -> Computed<u8>
     ensures { result ≡ computed (daa a f) }
 {
     let n = flag_n(f);
@@ -22,7 +22,7 @@ pub fn daa(a: u8, f: u8) -> Computed
     }
 }
 
-fn adjusted(x: u16, n: bool, c: bool) -> Computed
+fn adjusted(x: u16, n: bool, c: bool) -> Computed<u8>
     ensures { result ≡ byte_with (x % 256) (is_zero (x % 256)) n false c }
 {
     let v = (x % 256) as u8;

@@ -10,14 +10,14 @@ pub mod decimal;
 pub mod sums;
 pub mod words;
 
-// A byte with the flags that it comes with.
+// A byte or a word with the flags that it comes with.
 #[derive(Clone, Copy)]
-pub struct Computed {
-    pub value: u8,
+pub struct Computed<T> {
+    pub value: T,
     pub flags: u8,
 }
 
-pub fn flagged(value: u8, z: bool, n: bool, h: bool, c: bool) -> Computed
+pub fn flagged(value: u8, z: bool, n: bool, h: bool, c: bool) -> Computed<u8>
     ensures { result ≡ byte_with value z n h c }
 {
     Computed {

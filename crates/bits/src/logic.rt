@@ -8,41 +8,41 @@ ghost use Rattle.arithmetic.specs.Computed.{computed};
 use arithmetic::{Computed, flagged};
 use sm83::flags::{flag_c, flag_z};
 
-pub fn and(a: u8, x: u8) -> Computed
+pub fn and(a: u8, x: u8) -> Computed<u8>
     ensures { result ≡ computed (logical (bit_and a x) true) }
 {
     let v = a & x;
     flagged(v, v == 0, false, true, false)
 }
 
-pub fn xor(a: u8, x: u8) -> Computed
+pub fn xor(a: u8, x: u8) -> Computed<u8>
     ensures { result ≡ computed (logical (bit_xor a x) false) }
 {
     let v = a ^ x;
     flagged(v, v == 0, false, false, false)
 }
 
-pub fn or(a: u8, x: u8) -> Computed
+pub fn or(a: u8, x: u8) -> Computed<u8>
     ensures { result ≡ computed (logical (bit_or a x) false) }
 {
     let v = a | x;
     flagged(v, v == 0, false, false, false)
 }
 
-pub fn ccf(a: u8, f: u8) -> Computed
+pub fn ccf(a: u8, f: u8) -> Computed<u8>
     ensures { result ≡ computed (acc_op CCF a f) }
 {
     let c = flag_c(f);
     flagged(a, flag_z(f), false, false, !c)
 }
 
-pub fn scf(a: u8, f: u8) -> Computed
+pub fn scf(a: u8, f: u8) -> Computed<u8>
     ensures { result ≡ computed (acc_op SCF a f) }
 {
     flagged(a, flag_z(f), false, false, true)
 }
 
-pub fn cpl(a: u8, f: u8) -> Computed
+pub fn cpl(a: u8, f: u8) -> Computed<u8>
     ensures { result ≡ computed (acc_op CPL a f) }
 {
     let z = flag_z(f);

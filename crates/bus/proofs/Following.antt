@@ -1,8 +1,9 @@
 -- A kind of memory that the code's memory follows, access by access, is followed by every tree: the same answer, memories that belong together, and as many M-cycles as accesses. One induction on the tree.
+use Rattle.std.specs.Prelude.{Option}
 use Rattle.std.proofs.Common.{◌≡◌, ℕ, suc, ◌+◌, ◌%◌, ◌<◌, List, set, refl, ap, ◌∙◌, subst, arith}
-use Rattle.outcome.specs.declared.interrupt.NextInterrupt.{NextInterrupt}
 use Rattle.definition.specs.Bus.{Kind, Stack, Ask, leaf, read, write, idle, peek, write_and_take, Bus, Performed, run_on, mcycles, byte_at, pending, taken}
 use Rattle.bus.specs.World.{World, Led, shown, after_read, after_write, after_idle, peeked, after_take, accessing, leads, behind}
+use Rattle.outcome.specs.declared.interrupt.InterruptType.{InterruptType}
 
 -- R says which memories belong together
 pub record Follows {U : Type 0} (b : Bus U) (R : World → U → Type 0) : Type 0 where
@@ -66,14 +67,14 @@ module _ {U : Type 0} (b : Bus U) (R : World → U → Type 0) where
         let q = follow p (after_idle w) (b.after_idle v) (small (cycles w) _ (one_idle w)) (f.by_idle w v r) in
         record { value = q.value; memory = q.memory; counts = one_more (cycles w) _ _ _ (one_idle w) q.counts }
     follow (peek g) w v s r =
-        subst (λ (x : NextInterrupt). Followed (leads (g (peeked w)) w) w (run_on b (g x) (b.after_peek v))) (f.asks w v r) (follow (g (peeked w)) w (b.after_peek v) s (f.by_peek w v r))
+        subst (λ (x : Option InterruptType). Followed (leads (g (peeked w)) w) w (run_on b (g x) (b.after_peek v))) (f.asks w v r) (follow (g (peeked w)) w (b.after_peek v) s (f.by_peek w v r))
     follow (write_and_take a x g) w v s r =
         let w1 : World = after_write Stack w a x in
         let v1 : U = b.after_write Stack v a x in
         let r1 : R w1 v1 = f.by_write Stack w v a x r in
         let once : cycles (after_take w1) ≡ (cycles w + 1) % 4294967296 = no_take w1 ∙ one_write Stack w a x in
         let q = follow (g (peeked w1)) (after_take w1) (b.after_take v1) (small (cycles w) _ once) (f.by_take w1 v1 r1) in
-        subst (λ (y : NextInterrupt). Followed (leads (g (peeked w1)) (after_take w1)) w (run_on b (write_and_take a x (λ _. g y)) v)) (f.asks w1 v1 r1)
+        subst (λ (y : Option InterruptType). Followed (leads (g (peeked w1)) (after_take w1)) w (run_on b (write_and_take a x (λ _. g y)) v)) (f.asks w1 v1 r1)
         (record { value = q.value; memory = q.memory; counts = one_more (cycles w) _ _ _ once q.counts })
 
     -- where a tree is known to lead

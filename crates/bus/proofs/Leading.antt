@@ -33,4 +33,4 @@ module _ {X A : Type 0} (P : X → Does Ended A) {q : Does Ended A} {s t : Cpu} 
 
   -- One arm of a match, whatever its constructor y: x is what is matched, p what the arm does, and for y that is what P says.
   pub arm : (y : X) {x : X} {p : Does Ended A} → x ≡ y → Reaches p s port m q t port' m' → ((k : A → Cpu → Ask Ended) → leads (P y s k) (world port m) ≡ leads (p s k) (world port m)) → Reaches (P x) s port m q t port' m'
-  arm y e l same = renamed (sym e) (record { there = λ k. same k ∙ l.there k; whole = l.whole })
+  arm y e l same = renamed (sym e) (record { there = λ k. same k ∙ l.there k })

@@ -3,9 +3,8 @@ use Rattle.std.proofs.Common.{◌≡◌, ℕ, List, sym, ap, ◌∙◌}
 use Rattle.sm83.specs.declared.Cpu.{Cpu}
 use Rattle.sm83.specs.Basics.{next, back, word, high_byte, low_byte}
 use Rattle.definition.specs.Bus.{Kind, Operand, Stack, read, write}
-use Rattle.sm83.specs.declared.CpuRegisters.{CpuRegisters}
-use Rattle.sm83.specs.State.{pc, sp, set_pc, set_sp, pair_hl, write_hl, on_registers}
-use Rattle.definition.specs.Execution.{◌>>=◌, ◌>>◌, give, set_reg, reg_hl, byte_at_pc, imm8, imm16, load, store, idle, push, pop}
+use Rattle.sm83.specs.State.{pc, sp, set_pc, set_sp}
+use Rattle.definition.specs.Execution.{◌>>=◌, ◌>>◌, byte_at_pc, imm8, imm16, store, idle, push, pop}
 use Rattle.bus.specs.declared.Port.{Port}
 use Rattle.bus.specs.World.{world, leads, Reads, Writes, Idles}
 use Rattle.bus.specs.Leads.{Leads}
@@ -16,21 +15,11 @@ module _ (s : Cpu) (port port' : Port) (m m' : List ℕ) where
   unfolding byte_at_pc
   byte_at_pc_lem c v to h e k = h.there (λ x. k x (set_pc (next (pc s)) s)) ∙ ap (λ (x : ℕ). leads (k v (set_pc x s)) (world port' m')) (sym e)
 
-  pub byte_at : (c : Kind) (a v : ℕ) → Reads c a port m v port' m' → Leads (load c a) s port m v s port' m'
-  byte_at c a v h k = h.there (λ x. k x s)
-
   pub byte_to : (c : Kind) (a v : ℕ) → Writes c a v port m port' m' → Leads (store c a v) s port m tt s port' m'
   byte_to c a v h k = h.there (k tt s)
 
   pub idled : Idles port m port' m' → Leads idle s port m tt s port' m'
   idled h k = h.there (k tt s)
-
-  -- a byte at HL, which then moves by one
-  pub byte_at_hl : (f : ℕ → ℕ) (hl v to : ℕ) (regs : CpuRegisters) (t : Cpu) → hl ≡ pair_hl s.registers → Reads Operand hl port m v port' m' → to ≡ f hl → regs ≡ write_hl to s.registers → t ≡ on_registers (λ _. regs) s → Leads (do a ← reg_hl; x ← load Operand a; set_reg (write_hl (f a)); give x) s port m v t port' m'
-  byte_at_hl f hl v to regs t e1 h e2 e3 e4 k = simp (e4, e3, e2, ← e1) (h.there (λ x. k x (on_registers (write_hl (f hl)) s)))
-
-  pub byte_to_hl : (f : ℕ → ℕ) (hl v to : ℕ) (regs : CpuRegisters) (t : Cpu) → hl ≡ pair_hl s.registers → Writes Operand hl v port m port' m' → to ≡ f hl → regs ≡ write_hl to s.registers → t ≡ on_registers (λ _. regs) s → Leads (do a ← reg_hl; store Operand a v; set_reg (write_hl (f a))) s port m tt t port' m'
-  byte_to_hl f hl v to regs t e1 h e2 e3 e4 k = simp (e4, e3, e2, ← e1) (h.there (k tt (on_registers (write_hl (f hl)) s)))
 
   module _ (port'' : Port) (m'' : List ℕ) (first second : ℕ) where
     pub pushed : (w : ℕ) (t : Cpu) → first ≡ back (sp s) → second ≡ back first → Writes Stack first (high_byte w) port m port' m' → Writes Stack second (low_byte w) port' m' port'' m'' → t ≡ set_sp second s → Leads (push w) s port m tt t port'' m''

@@ -1,11 +1,11 @@
 -- The code's memory: bytes that the caller lends, and a port that counts the M-cycles. What it shows and what an access leaves is shut: above this crate a proof knows only where a tree leads.
-use Rattle.std.specs.Prelude.{◌≡◌, ℕ, ◌+◌, ◌%◌, List, length, slice_set}
-use Rattle.outcome.specs.declared.interrupt.NextInterrupt.{NextInterrupt}
+use Rattle.std.specs.Prelude.{◌≡◌, ℕ, ◌+◌, ◌%◌, List, slice_set, Option}
 use Rattle.definition.specs.Bus.{Bus, Kind, Fetch, Operand, Stack, Ask, leaf, read, write, idle, peek, write_and_take, byte_at, pending, taken, plain}
 use Rattle.definition.specs.Step.{Ended}
 use Rattle.bus.specs.declared.AccessKind.{AccessKind}
 use Rattle.bus.specs.declared.AccessKind.TheVariants as said
 use Rattle.bus.specs.declared.Port.{Port}
+use Rattle.outcome.specs.declared.interrupt.InterruptType.{InterruptType}
 
 pub record World : Type 0 where
   pub port : Port
@@ -38,7 +38,7 @@ after_write k w a v = world (counted w.port) (slice_set w.bytes a v)
 unfoldable pub after_idle : World → World
 after_idle w = world (counted w.port) w.bytes
 
-unfoldable pub peeked : World → NextInterrupt
+unfoldable pub peeked : World → Option InterruptType
 peeked w = pending w.bytes
 
 unfoldable pub after_take : World → World
@@ -67,17 +67,14 @@ leads (write_and_take a v f) w = leads (f (peeked (after_write Stack w a v))) (a
 -- with a value
 pub record Gives {A : Type 0} (node : (A → Ask Ended) → Ask Ended) (port : Port) (m : List ℕ) (v : A) (port' : Port) (m' : List ℕ) : Type 0 where
   pub there : (rest : A → Ask Ended) → leads (node rest) (world port m) ≡ leads (rest v) (world port' m')
-  pub whole : length m' ≡ 65536
 
 -- with none
 pub record Leaves (node : Ask Ended → Ask Ended) (port : Port) (m : List ℕ) (port' : Port) (m' : List ℕ) : Type 0 where
   pub there : (rest : Ask Ended) → leads (node rest) (world port m) ≡ leads rest (world port' m')
-  pub whole : length m' ≡ 65536
 
 -- at no cost: the port stays, whatever it is
 pub record Looks {A : Type 0} (node : (A → Ask Ended) → Ask Ended) (m : List ℕ) (v : A) (m' : List ℕ) : Type 0 where
   pub there : (port : Port) (rest : A → Ask Ended) → leads (node rest) (world port m) ≡ leads (rest v) (world port m')
-  pub whole : length m' ≡ 65536
 
 abbrev pub Reads : Kind → ℕ → Port → List ℕ → ℕ → Port → List ℕ → Type 0
 Reads k a = Gives (read k a)
@@ -88,17 +85,12 @@ Writes k a v = Leaves (write k a v)
 abbrev pub Idles : Port → List ℕ → Port → List ℕ → Type 0
 Idles = Leaves idle
 
-abbrev pub Peeks : List ℕ → NextInterrupt → List ℕ → Type 0
+abbrev pub Peeks : List ℕ → Option InterruptType → List ℕ → Type 0
 Peeks = Looks peek
 
 -- the push that takes an interrupt
-abbrev pub Takes : ℕ → ℕ → Port → List ℕ → NextInterrupt → Port → List ℕ → Type 0
+abbrev pub Takes : ℕ → ℕ → Port → List ℕ → Option InterruptType → Port → List ℕ → Type 0
 Takes a v = Gives (write_and_take a v)
-
--- What a contract asks that asks for more than a memory of 65,536 bytes.
-pub record Given (m : List ℕ) (P : Type 0) : Type 0 where
-  pub whole : length m ≡ 65536
-  pub holds : P
 
 -- Which of the definition's memories stands behind it: plain memory, the same bytes. (Proved of every tree in proofs/Following; the run's loop names it by this name alone.)
 abbrev pub behind : Bus (List ℕ)

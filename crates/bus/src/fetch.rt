@@ -1,15 +1,14 @@
 // Bytes at PC.
-ghost use Rattle.std.specs.Prelude.{◌≡◌, length};
+ghost use Rattle.std.specs.Prelude.{◌≡◌};
 ghost use Rattle.definition.specs.Execution.{byte_at_pc, imm16};
 ghost use Rattle.bus.specs.World.{kind_of};
 ghost use Rattle.bus.specs.Leads.{Runs};
 
-use crate::{AccessKind, Port, Val8, Val16};
+use crate::{AccessKind, Left, Memory, Port};
 use sm83::Cpu;
 use sm83::registers::pair;
 
-pub fn fetch_next_pc(cpu: Cpu, port: Port, kind: AccessKind, mem: &mut [u8]) -> Val8
-    requires { length mem.old ≡ 65536 }
+pub fn fetch_next_pc(cpu: Cpu, port: Port, kind: AccessKind, mem: &mut Memory) -> Left<u8>
     ensures { Runs (byte_at_pc (kind_of kind)) cpu port mem.old result.value result.cpu result.port mem.new }
 {
     let mut regs = cpu.registers;
@@ -20,7 +19,7 @@ pub fn fetch_next_pc(cpu: Cpu, port: Port, kind: AccessKind, mem: &mut [u8]) -> 
     regs.pc = after;
     let mut s = cpu;
     s.registers = regs;
-    Val8 {
+    Left {
         cpu: s,
         port: p,
         value: got.value,
@@ -28,8 +27,7 @@ pub fn fetch_next_pc(cpu: Cpu, port: Port, kind: AccessKind, mem: &mut [u8]) -> 
 }
 
 // The low byte first.
-pub fn fetch16(cpu: Cpu, port: Port, mem: &mut [u8]) -> Val16
-    requires { length mem.old ≡ 65536 }
+pub fn fetch16(cpu: Cpu, port: Port, mem: &mut Memory) -> Left<u16>
     ensures { Runs imm16 cpu port mem.old result.value result.cpu result.port mem.new }
 {
     let x = fetch_next_pc(cpu, port, AccessKind::Operand, mem);
@@ -38,7 +36,7 @@ pub fn fetch16(cpu: Cpu, port: Port, mem: &mut [u8]) -> Val16
     let y = fetch_next_pc(c, p, AccessKind::Operand, mem);
     let d = y.cpu;
     let q = y.port;
-    Val16 {
+    Left {
         cpu: d,
         port: q,
         value: pair(y.value, x.value),

@@ -1,15 +1,15 @@
 // Interrupts on plain memory. Peeking at one costs nothing; taking it is part of the push that does.
-ghost use Rattle.std.specs.Prelude.{◌≡◌, length};
+ghost use Rattle.std.specs.Prelude.{◌≡◌};
 ghost use Rattle.definition.specs.Bus.{lowest};
 ghost use Rattle.bus.specs.World.{Peeks, Takes};
 ghost use Rattle.bus.specs.Requests.{Sees, Clears, SeesAndTakes};
 
-use crate::{AccessKind, Port, write};
-use outcome::interrupt::{InterruptType, NextInterrupt};
+use crate::{AccessKind, Got, Memory, Port, write};
+use outcome::interrupt::InterruptType;
 use sm83::Addr;
 
 // "the lowest set bit wins"
-fn lowest(x: u8) -> NextInterrupt
+fn lowest(x: u8) -> Option<InterruptType>
     ensures { result ≡ lowest x }
 {
     let first = x % 2 == 1;
@@ -18,23 +18,22 @@ fn lowest(x: u8) -> NextInterrupt
     let fourth = x / 8 % 2 == 1;
     let fifth = x / 16 % 2 == 1;
     if first {
-        NextInterrupt::Pending(InterruptType::Vblank)
+        Some(InterruptType::Vblank)
     } else if second {
-        NextInterrupt::Pending(InterruptType::LcdStat)
+        Some(InterruptType::LcdStat)
     } else if third {
-        NextInterrupt::Pending(InterruptType::Timer)
+        Some(InterruptType::Timer)
     } else if fourth {
-        NextInterrupt::Pending(InterruptType::Serial)
+        Some(InterruptType::Serial)
     } else if fifth {
-        NextInterrupt::Pending(InterruptType::Joypad)
+        Some(InterruptType::Joypad)
     } else {
-        NextInterrupt::NonePending
+        None
     }
 }
 
 // The lowest bit that is requested and enabled, of the bytes as they lie there; the processor peeks.
-pub fn lowest_pending(mem: &mut [u8]) -> NextInterrupt
-    requires { length mem.old ≡ 65536 }
+pub fn lowest_pending(mem: &mut Memory) -> Option<InterruptType>
     ensures { Sees mem.old result mem.new }
 {
     let requested = mem[0xff0f];
@@ -42,15 +41,13 @@ pub fn lowest_pending(mem: &mut [u8]) -> NextInterrupt
     lowest(requested & enabled & 0x1f)
 }
 
-pub fn peek_next_interrupt(mem: &mut [u8]) -> NextInterrupt
-    requires { length mem.old ≡ 65536 }
+pub fn peek_next_interrupt(mem: &mut Memory) -> Option<InterruptType>
     ensures { Peeks mem.old result mem.new }
 {
     lowest_pending(mem)
 }
 
-fn acknowledge(mem: &mut [u8], interrupt: InterruptType)
-    requires { length mem.old ≡ 65536 }
+fn acknowledge(mem: &mut Memory, interrupt: InterruptType)
     ensures { Clears interrupt mem.old mem.new }
 {
     let requested = mem[0xff0f];
@@ -59,36 +56,27 @@ fn acknowledge(mem: &mut [u8], interrupt: InterruptType)
 }
 
 // Clears the bit of the interrupt that it answers.
-fn take_next_interrupt(mem: &mut [u8]) -> NextInterrupt
-    requires { length mem.old ≡ 65536 }
+fn take_next_interrupt(mem: &mut Memory) -> Option<InterruptType>
     ensures { SeesAndTakes mem.old result mem.new }
 {
     let next = lowest_pending(mem);
     match next {
-        NextInterrupt::NonePending => next,
-        NextInterrupt::Pending(interrupt) => {
+        None => next,
+        Some(interrupt) => {
             acknowledge(mem, interrupt);
-            NextInterrupt::Pending(interrupt)
+            Some(interrupt)
         }
     }
 }
 
-// What the push that takes answers.
-#[derive(Clone, Copy)]
-pub struct Taken {
-    pub port: Port,
-    pub next: NextInterrupt,
-}
-
 // The push that takes an interrupt: one access.
-pub fn write_and_take(port: Port, mem: &mut [u8], a: Addr, v: u8) -> Taken
-    requires { length mem.old ≡ 65536 }
-    ensures { Takes a.0 v port mem.old result.next result.port mem.new }
+pub fn write_and_take(port: Port, mem: &mut Memory, a: Addr, v: u8) -> Got<Option<InterruptType>>
+    ensures { Takes a.0 v port mem.old result.value result.port mem.new }
 {
     let p = write(port, mem, AccessKind::Stack, a, v);
     let next = take_next_interrupt(mem);
-    Taken {
+    Got {
         port: p,
-        next: next,
+        value: next,
     }
 }

@@ -3,7 +3,7 @@
 // nothing else of port or bytes.
 #![tactic(auto)]
 
-ghost use Rattle.std.specs.Prelude.{◌≡◌, length};
+ghost use Rattle.std.specs.Prelude.{◌≡◌};
 ghost use Rattle.bus.specs.World.{kind_of, counted, Reads, Writes, Idles};
 
 use sm83::{Addr, Cpu, MCycles};
@@ -11,6 +11,9 @@ use sm83::{Addr, Cpu, MCycles};
 pub mod access;
 pub mod fetch;
 pub mod interrupts;
+
+// Plain memory: the type holds that it has 65,536 bytes, whatever is done to them.
+pub type Memory = [u8; 65536];
 
 // What an access is for, as its caller says. Plain memory does the same for each.
 #[derive(Clone, Copy)]
@@ -25,10 +28,11 @@ pub struct Port {
     pub cycles: MCycles,
 }
 
+// What an access answers: the port as it leaves it, and a value.
 #[derive(Clone, Copy)]
-pub struct Got {
+pub struct Got<T> {
     pub port: Port,
-    pub value: u8,
+    pub value: T,
 }
 
 fn tick(port: Port) -> Port
@@ -40,8 +44,7 @@ fn tick(port: Port) -> Port
     Port { cycles: m }
 }
 
-pub fn read(port: Port, mem: &mut [u8], kind: AccessKind, a: Addr) -> Got
-    requires { length mem.old ≡ 65536 }
+pub fn read(port: Port, mem: &mut Memory, kind: AccessKind, a: Addr) -> Got<u8>
     ensures { Reads (kind_of kind) a.0 port mem.old result.value result.port mem.new }
 {
     let at = a.0 as usize;
@@ -52,8 +55,7 @@ pub fn read(port: Port, mem: &mut [u8], kind: AccessKind, a: Addr) -> Got
     }
 }
 
-pub fn write(port: Port, mem: &mut [u8], kind: AccessKind, a: Addr, v: u8) -> Port
-    requires { length mem.old ≡ 65536 }
+pub fn write(port: Port, mem: &mut Memory, kind: AccessKind, a: Addr, v: u8) -> Port
     ensures { Writes (kind_of kind) a.0 v port mem.old result mem.new }
 {
     let at = a.0 as usize;
@@ -62,30 +64,16 @@ pub fn write(port: Port, mem: &mut [u8], kind: AccessKind, a: Addr, v: u8) -> Po
 }
 
 // `advance_bus` of the Rust, whose `read(0)` changes nothing on plain memory.
-pub fn idle(port: Port, mem: &mut [u8]) -> Port
-    requires { length mem.old ≡ 65536 }
+pub fn idle(port: Port, mem: &mut Memory) -> Port
     ensures { Idles port mem.old result mem.new }
 {
     tick(port)
 }
 
-// What the parts of an instruction answer: the state and the port as they leave them, and a value.
+// What a part of an instruction answers: the state and the port as it leaves them, and a value.
 #[derive(Clone, Copy)]
-pub struct Val8 {
+pub struct Left<T> {
     pub cpu: Cpu,
     pub port: Port,
-    pub value: u8,
-}
-
-#[derive(Clone, Copy)]
-pub struct Val16 {
-    pub cpu: Cpu,
-    pub port: Port,
-    pub value: u16,
-}
-
-#[derive(Clone, Copy)]
-pub struct Both {
-    pub cpu: Cpu,
-    pub port: Port,
+    pub value: T,
 }

@@ -1,4 +1,5 @@
 -- A fact of every way in which a tree may end, whatever memory answers: of the accesses on the way and of the end. It holds of the tree on every kind of memory.
+use Rattle.std.specs.Prelude.{Option}
 use Rattle.std.proofs.Common.{if◌then◌else◌}
 use mathlib.Core.Path.{◌≡◌, refl}
 use mathlib.Core.Bool.{Bool, true, false}
@@ -6,21 +7,21 @@ use mathlib.Core.List.{List, [], ◌∷◌}
 use Prim.Native.Nat.{ℕ, suc}
 use lib.ListN.{length}
 use Rattle.sm83.specs.declared.Cpu.{Cpu}
-use Rattle.outcome.specs.declared.interrupt.NextInterrupt.{NextInterrupt}
 use Rattle.outcome.specs.declared.Outcome.TheVariants.{Normal}
 use Rattle.definition.specs.Bus.{Operand, Stack, Ask, leaf, read, write, idle, peek, write_and_take, Access, Read, Write, Idle, WriteAndTake, Bus, run_on}
 use Rattle.sm83.specs.State.{pair_hl, pc, flags}
 use Rattle.opcodes.specs.Instruction.{Reg8, rB, rC, rD, rE, rH, rL, [HL], rA}
 use Rattle.definition.specs.Execution.{Does, get8, put8}
 use Rattle.definition.specs.Step.{Ended, ended}
+use Rattle.outcome.specs.declared.interrupt.InterruptType.{InterruptType}
 
 abbrev pub Ends : (List Access → Ended → Type 0) → Ask Ended → Type 0
 Ends P (leaf e) = P [] e
 Ends P (read k a f) = (v : ℕ) → Ends (λ l e. P (Read k a ∷ l) e) (f v)
 Ends P (write k a v p) = Ends (λ l e. P (Write k a v ∷ l) e) p
 Ends P (idle p) = Ends (λ l e. P (Idle ∷ l) e) p
-Ends P (peek f) = (i : NextInterrupt) → Ends P (f i)
-Ends P (write_and_take a v f) = (i : NextInterrupt) → Ends (λ l e. P (WriteAndTake a v ∷ l) e) (f i)
+Ends P (peek f) = (i : Option InterruptType) → Ends P (f i)
+Ends P (write_and_take a v f) = (i : Option InterruptType) → Ends (λ l e. P (WriteAndTake a v ∷ l) e) (f i)
 
 pub ends_on : {W : Type 0} (b : Bus W) (P : List Access → Ended → Type 0) (p : Ask Ended) → Ends P p → (m : W) → P (run_on b p m).accesses (run_on b p m).value
 unfolding run_on

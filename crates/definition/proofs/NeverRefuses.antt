@@ -1,4 +1,5 @@
 -- No instruction but an illegal opcode ends in a refusal, whatever memory answers.
+use Rattle.std.specs.Prelude.{Option}
 use Rattle.std.proofs.Common.{if◌then◌else◌}
 use mathlib.Core.Path.{sym, subst}
 use mathlib.Core.Bool.{Bool, true, false, not}
@@ -11,7 +12,6 @@ use Rattle.sm83.specs.declared.HaltMode.TheVariants.{HaltRunInterrupt, HaltNoRun
 use Rattle.sm83.specs.Basics.{word, next, offset}
 use Rattle.definition.specs.Bus as bus
 use Rattle.definition.specs.Bus.{Ask, leaf, read, write, idle, write_and_take, Stack, Bus, run_on}
-use Rattle.outcome.specs.declared.interrupt.NextInterrupt.{NextInterrupt}
 use Rattle.outcome.specs.Interrupts.{is_pending}
 use Rattle.opcodes.specs.Arithmetic.{holds}
 use Rattle.sm83.specs.State.{pc, flags, pair_hl, set_halt}
@@ -23,6 +23,7 @@ use Rattle.definition.proofs.Refused.{is_refused}
 use Rattle.definition.proofs.Compose.{bind}
 use Rattle.definition.proofs.Parts.{left, work_alone, prefixed_alone}
 use Rattle.opcodes.proofs.Illegal.{is_illegal}
+use Rattle.outcome.specs.declared.interrupt.InterruptType.{InterruptType}
 
 -- no end is a refusal
 abbrev pub Never : Ask Ended → Type 0
@@ -30,8 +31,8 @@ Never (leaf e) = T (not (is_refused e.outcome))
 Never (read k a f) = (v : ℕ) → Never (f v)
 Never (write k a v p) = Never p
 Never (idle p) = Never p
-Never (bus.peek f) = (i : NextInterrupt) → Never (f i)
-Never (write_and_take a v f) = (i : NextInterrupt) → Never (f i)
+Never (bus.peek f) = (i : Option InterruptType) → Never (f i)
+Never (write_and_take a v f) = (i : Option InterruptType) → Never (f i)
 
 pub never_run : {W : Type 0} (b : Bus W) (p : Ask Ended) (m : W) → Never p → T (not (is_refused (run_on b p m).value.outcome))
 unfolding run_on

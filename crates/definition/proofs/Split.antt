@@ -1,5 +1,6 @@
 -- A run equals its pieces: so many steps and then so many more are one run, unless the first piece stops early.
 -- By induction on the first budget.
+use Rattle.std.specs.Prelude.{None, Option, Some}
 use Rattle.std.proofs.Common.{if◌then◌else◌}
 use mathlib.Core.Path.{◌≡◌, refl, ap, ap₂, sym, ◌∙◌}
 use mathlib.Core.Bool.{Bool, true, false, not}
@@ -8,17 +9,15 @@ use native.Mathlib.Omega.{arith}
 use lib.Dec.{T}
 use Rattle.sm83.specs.declared.Cpu.{Cpu}
 use Rattle.outcome.specs.declared.Outcome.{Outcome}
-use Rattle.outcome.specs.declared.LastOutcome.{LastOutcome}
-use Rattle.outcome.specs.declared.LastOutcome.TheVariants.{NothingRun, Last}
 use Rattle.definition.specs.Bus.{Bus, Performed, mcycles}
 use Rattle.definition.specs.Step.{Ended, Admission, accepted, refused_as, admission, step_on}
 use Rattle.definition.specs.Run.{stops_run, stops_last, RunAnswer, then_rest, repeated, admitted_run, run_for}
 use Rattle.definition.proofs.Runs.{either_way}
 
 -- the last outcome of two pieces
-abbrev pub later_of : LastOutcome → LastOutcome → LastOutcome
-later_of o NothingRun = o
-later_of o (Last p) = Last p
+abbrev pub later_of : Option Outcome → Option Outcome → Option Outcome
+later_of o None = o
+later_of o (Some p) = Some p
 
 -- a run, and another from its end: steps and M-cycles add up
 abbrev pub followed_by : {W : Type 0} → RunAnswer W → RunAnswer W → RunAnswer W
@@ -50,10 +49,10 @@ module _ {W : Type 0} where
       ap₂ (λ (n d : ℕ). record { last = later_of r.last k.last; cpu = k.cpu; memory = k.memory; steps = n; cycles = d }) (omega arith) (omega arith)
 
   -- nothing run yet
-  abbrev begun : LastOutcome → Cpu → W → RunAnswer W
+  abbrev begun : Option Outcome → Cpu → W → RunAnswer W
   begun o s m = record { last = o; cpu = s; memory = m; steps = 0; cycles = 0 }
 
-  nothing_before : (o : LastOutcome) (s : Cpu) (m : W) (r : RunAnswer W) → later_of o r.last ≡ r.last → r ≡ followed_by (begun o s m) r
+  nothing_before : (o : Option Outcome) (s : Cpu) (m : W) (r : RunAnswer W) → later_of o r.last ≡ r.last → r ≡ followed_by (begun o s m) r
   nothing_before o s m r e =
       let n : r.steps ≡ 0 + r.steps = omega arith in
       let c : r.cycles ≡ 0 + r.cycles = omega arith in
@@ -61,14 +60,14 @@ module _ {W : Type 0} where
 
 module _ {W : Type 0} (b : Bus W) where
   -- after a step it is not asked what was before it
-  later : (o : LastOutcome) (p : Outcome) (n : ℕ) (s : Cpu) (m : W) → later_of o (repeated b (Last p) n s m).last ≡ (repeated b (Last p) n s m).last
+  later : (o : Option Outcome) (p : Outcome) (n : ℕ) (s : Cpu) (m : W) → later_of o (repeated b (Some p) n s m).last ≡ (repeated b (Some p) n s m).last
   unfolding repeated
   later o p zero s m = refl
   later o p (suc n) s m =
       let r : Performed W Ended = step_on b s m in
       either_way b (stops_run r.value.outcome) _ _ (λ x. later_of o x.last ≡ x.last) (λ t. refl) (λ t. later o r.value.outcome n r.value.cpu r.memory)
 
-  afresh : (o : LastOutcome) (n : ℕ) (s : Cpu) (m : W) → repeated b o n s m ≡ followed_by (begun o s m) (repeated b NothingRun n s m)
+  afresh : (o : Option Outcome) (n : ℕ) (s : Cpu) (m : W) → repeated b o n s m ≡ followed_by (begun o s m) (repeated b None n s m)
   unfolding repeated
   afresh o zero s m = refl
   afresh o (suc n) s m =
@@ -78,9 +77,9 @@ module _ {W : Type 0} (b : Bus W) where
 
   -- what j steps more make of a run that has come to r
   abbrev pub more : ℕ → RunAnswer W → RunAnswer W
-  more j r = unless_stopped r (repeated b NothingRun j r.cpu r.memory)
+  more j r = unless_stopped r (repeated b None j r.cpu r.memory)
 
-  pub repeated_in_two : (o : LastOutcome) → T (not (stops_last o)) → (i j : ℕ) (s : Cpu) (m : W) → repeated b o (i + j) s m ≡ more j (repeated b o i s m)
+  pub repeated_in_two : (o : Option Outcome) → T (not (stops_last o)) → (i j : ℕ) (s : Cpu) (m : W) → repeated b o (i + j) s m ≡ more j (repeated b o i s m)
   unfolding repeated
   repeated_in_two o h zero j s m =
       let e : 0 + j ≡ j = omega arith in
@@ -89,11 +88,11 @@ module _ {W : Type 0} (b : Bus W) where
       let e : suc i + j ≡ suc (i + j) = omega arith in
       let r : Performed W Ended = step_on b s m in
       let c : ℕ = mcycles r.accesses in
-      let rest : RunAnswer W = repeated b (Last r.value.outcome) i r.value.cpu r.memory in
+      let rest : RunAnswer W = repeated b (Some r.value.outcome) i r.value.cpu r.memory in
       ap (λ (n : ℕ). repeated b o n s m) e
       ∙ both_ways (more j) (stops_run r.value.outcome) _ _ (then_rest c rest)
       (λ t. stops (stops_run r.value.outcome) _ _ t)
-      (λ t. ap (then_rest c) (repeated_in_two (Last r.value.outcome) t i j r.value.cpu r.memory) ∙ step_before c (stops_last rest.last) rest (repeated b NothingRun j rest.cpu rest.memory))
+      (λ t. ap (then_rest c) (repeated_in_two (Some r.value.outcome) t i j r.value.cpu r.memory) ∙ step_before c (stops_last rest.last) rest (repeated b None j rest.cpu rest.memory))
 
   pub run_as : (n : ℕ) (s : Cpu) (m : W) {v : Admission} → admission b s m ≡ v → run_for b n s m ≡ admitted_run v b n s m
   unfolding run_for
@@ -107,7 +106,7 @@ module _ {W : Type 0} (b : Bus W) where
     by_admission : (v : Admission) → admission b s m ≡ v → run_for b (i + j) s m ≡ then_run j (run_for b i s m)
     by_admission accepted e =
         run_as (i + j) s m e
-        ∙ repeated_in_two NothingRun tt i j s m
+        ∙ repeated_in_two None tt i j s m
         ∙ ap (more j) (sym (run_as i s m e))
         ∙ ap (unless_stopped (run_for b i s m)) (sym (run_as j _ _ (again e)))
     by_admission (refused_as r) e = run_as (i + j) s m e ∙ ap (then_run j) (sym (run_as i s m e))

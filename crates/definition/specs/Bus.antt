@@ -1,11 +1,10 @@
 -- What a step asks of memory, in order, as a tree; the list of accesses that it comes to; and plain memory.
-use Rattle.std.specs.Prelude.{List, [], ◌∷◌, ℕ, eqb, get_or, set, length, if◌then◌else◌}
+use Rattle.std.specs.Prelude.{List, [], ◌∷◌, ℕ, eqb, get_or, set, length, if◌then◌else◌, None, Option, Some}
 use Rattle.std.specs.Int.Bits.{bit_and}
 use Rattle.sm83.specs.Basics.{bit_at, cleared}
 use Rattle.outcome.specs.declared.interrupt.InterruptType.TheVariants.{Vblank, LcdStat, Timer, Serial, Joypad}
-use Rattle.outcome.specs.declared.interrupt.NextInterrupt.{NextInterrupt}
-use Rattle.outcome.specs.declared.interrupt.NextInterrupt.TheVariants.{NonePending, Pending}
 use Rattle.outcome.specs.Interrupts.{interrupt_number}
+use Rattle.outcome.specs.declared.interrupt.InterruptType.{InterruptType}
 
 -- What an access is for. No promise is made about it yet (02, request 9).
 pub data Kind : Type 0 where
@@ -18,8 +17,8 @@ pub data Ask (A : Type 0) : Type 0 where
   read : Kind → ℕ → (ℕ → Ask A) → Ask A
   write : Kind → ℕ → ℕ → Ask A → Ask A
   idle : Ask A → Ask A
-  peek : (NextInterrupt → Ask A) → Ask A
-  write_and_take : ℕ → ℕ → (NextInterrupt → Ask A) → Ask A
+  peek : (Option InterruptType → Ask A) → Ask A
+  write_and_take : ℕ → ℕ → (Option InterruptType → Ask A) → Ask A
 
 -- "A read, a write or an idle access costs one M-cycle": each entry of the list is one of them.
 pub data Access : Type 0 where
@@ -35,7 +34,7 @@ pub record Bus (W : Type 0) : Type 0 where
   pub after_read : Kind → W → ℕ → W
   pub after_write : Kind → W → ℕ → ℕ → W
   pub after_idle : W → W
-  pub peeks : W → NextInterrupt
+  pub peeks : W → Option InterruptType
   pub after_peek : W → W
   pub after_take : W → W
 
@@ -62,13 +61,13 @@ abbrev pub mcycles : List Access → ℕ
 mcycles l = length l
 
 -- "the lowest set bit wins"
-abbrev pub lowest : ℕ → NextInterrupt
+abbrev pub lowest : ℕ → Option InterruptType
 lowest x =
-    if eqb (bit_at 0 x) 1 then Pending Vblank
-    else (if eqb (bit_at 1 x) 1 then Pending LcdStat
-    else (if eqb (bit_at 2 x) 1 then Pending Timer
-    else (if eqb (bit_at 3 x) 1 then Pending Serial
-    else (if eqb (bit_at 4 x) 1 then Pending Joypad else NonePending))))
+    if eqb (bit_at 0 x) 1 then Some Vblank
+    else (if eqb (bit_at 1 x) 1 then Some LcdStat
+    else (if eqb (bit_at 2 x) 1 then Some Timer
+    else (if eqb (bit_at 3 x) 1 then Some Serial
+    else (if eqb (bit_at 4 x) 1 then Some Joypad else None))))
 
 -- Plain memory: a list of 65,536 bytes.
 
@@ -76,13 +75,13 @@ abbrev pub byte_at : List ℕ → ℕ → ℕ
 byte_at m a = get_or m a 0
 
 -- "Peeking sees byte 0xFF0F AND byte 0xFFFF AND 0x1F"
-unfoldable pub pending : List ℕ → NextInterrupt
+unfoldable pub pending : List ℕ → Option InterruptType
 pending m = lowest (bit_and (bit_and (byte_at m 0xff0f) (byte_at m 0xffff)) 0x1f)
 
 -- "Taking it clears that bit alone at 0xFF0F"
-abbrev pub without : NextInterrupt → List ℕ → List ℕ
-without NonePending m = m
-without (Pending i) m = set m 0xff0f (cleared (interrupt_number i) (byte_at m 0xff0f))
+abbrev pub without : Option InterruptType → List ℕ → List ℕ
+without None m = m
+without (Some i) m = set m 0xff0f (cleared (interrupt_number i) (byte_at m 0xff0f))
 
 unfoldable pub taken : List ℕ → List ℕ
 taken m = without (pending m) m

@@ -1,5 +1,5 @@
 -- What each instruction asks of memory and leaves, one line an instruction. Meanings and M-cycles from the reference; the order of the accesses from 000.
-use Rattle.std.specs.Prelude.{true, false, ℕ, ◌+◌, ◌%◌, eqb, if◌then◌else◌}
+use Rattle.std.specs.Prelude.{true, false, ℕ, ◌+◌, ◌%◌, eqb, if◌then◌else◌, Option}
 use Rattle.sm83.specs.declared.CpuRegisters.{CpuRegisters}
 use Rattle.sm83.specs.declared.Cpu.{Cpu}
 use Rattle.sm83.specs.declared.HaltMode.TheVariants.{HaltRunInterrupt, HaltNoRunInterrupt, HaltBug}
@@ -9,7 +9,6 @@ use Rattle.outcome.specs.declared.Outcome.TheVariants.{Normal, InfiniteLoop, Bre
 use Rattle.sm83.specs.Basics.{cleared, raised, word, high_byte, low_byte, next, back, offset}
 use Rattle.definition.specs.Bus as bus
 use Rattle.definition.specs.Bus.{Kind, Fetch, Operand, Stack, Ask, read, write}
-use Rattle.outcome.specs.declared.interrupt.NextInterrupt.{NextInterrupt}
 use Rattle.outcome.specs.Interrupts.{is_pending}
 use Rattle.sm83.specs.State.{pair_af, pair_bc, pair_de, pair_hl, write_a, write_f, write_sp, write_pc, put_bc, put_de, put_hl, write_bc, write_de, write_hl, write_af, on_registers, set_pc, set_ime, set_latch, set_halt, set_stopped}
 use Rattle.opcodes.specs.Arithmetic.{holds, Result, alu_op, acc_op, shift_op, increment, decrement, bit_test, word_sum_flags, offset_flags}
@@ -17,6 +16,7 @@ use Rattle.opcodes.specs.Instruction.{Reg8, rB, rC, rD, rE, rH, rL, [HL], rA, Re
 use Rattle.opcodes.specs.Instruction.{Work, NOP, DI, LD-r8-r8, LD-r8-n8, LD-r16-n16, LD-[r16]-A, LD-A-[r16], LD-[n16]-A, LD-A-[n16], LDH-[n8]-A, LDH-A-[n8], LDH-[C]-A, LDH-A-[C], LD-[n16]-SP, LD-SP-HL, LD-HL-SP+e8, ADD-SP-e8, ALU-A-r8, ALU-A-n8, ACC, INC-r8, DEC-r8, INC-r16, DEC-r16, ADD-HL-r16, PUSH-r16, POP-r16}
 use Rattle.opcodes.specs.Instruction.{Jump, JP-n16, JP-HL, JR-e8, CALL-n16, RET, RETI, JP-cc-n16, JR-cc-e8, CALL-cc-n16, RET-cc, RST-vec}
 use Rattle.opcodes.specs.Instruction.{Instruction, does, goes, CB-prefix, HALT, STOP, EI, LD-B-B, ILLEGAL, Prefixed, SHIFT-r8, BIT-u3-r8, RES-u3-r8, SET-u3-r8, decode_cb}
+use Rattle.outcome.specs.declared.interrupt.InterruptType.{InterruptType}
 
 -- What is done from a state on: its value and the state that it leaves go to what comes next.
 abbrev pub Does : Type 0 → Type 0 → Type 0
@@ -79,7 +79,7 @@ store c a v = λ s k. write c a v (k tt s)
 abbrev pub idle : {R : Type 0} → Does R (Unit {0})
 idle = λ s k. bus.idle (k tt s)
 
-abbrev pub peek : {R : Type 0} → Does R NextInterrupt
+abbrev pub peek : {R : Type 0} → Does R (Option InterruptType)
 peek = λ s k. bus.peek (λ i. k i s)
 
 -- the byte at PC, and PC past it

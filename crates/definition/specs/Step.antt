@@ -1,11 +1,9 @@
 -- One step, in the document's seven points, and what it answers on any kind of memory.
-use Rattle.std.specs.Prelude.{Bool, true, false, [], ◌∷◌, ℕ, ◌%◌, eqb, get_or, if◌then◌else◌}
+use Rattle.std.specs.Prelude.{Bool, true, false, [], ◌∷◌, ℕ, ◌%◌, eqb, get_or, if◌then◌else◌, None, Option, Some}
 use Rattle.sm83.specs.declared.Cpu.{Cpu}
 use Rattle.sm83.specs.declared.HaltMode.{HaltMode}
 use Rattle.sm83.specs.declared.HaltMode.TheVariants.{NotHalting, HaltRunInterrupt, HaltNoRunInterrupt, HaltBug}
 use Rattle.outcome.specs.declared.interrupt.InterruptType.{InterruptType}
-use Rattle.outcome.specs.declared.interrupt.NextInterrupt.{NextInterrupt}
-use Rattle.outcome.specs.declared.interrupt.NextInterrupt.TheVariants.{NonePending, Pending}
 use Rattle.outcome.specs.Interrupts.{interrupt_number, is_pending}
 use Rattle.outcome.specs.declared.Refusal.{Refusal}
 use Rattle.outcome.specs.declared.Refusal.TheVariants.{MemoryLength, LowBitsOfF}
@@ -35,17 +33,17 @@ abbrev pub vector : InterruptType → ℕ
 vector i = get_or (0x40 ∷ 0x48 ∷ 0x50 ∷ 0x58 ∷ 0x60 ∷ []) (interrupt_number i) 0
 
 -- "PC is its vector .. If none is left, PC is 0"
-abbrev pub entry_of : NextInterrupt → ℕ
-entry_of NonePending = 0
-entry_of (Pending i) = vector i
+abbrev pub entry_of : Option InterruptType → ℕ
+entry_of None = 0
+entry_of (Some i) = vector i
 
 -- "the outcome RunningInterrupt with its number. If none is left .. the outcome is Normal."
-abbrev pub dispatched_as : NextInterrupt → Outcome
-dispatched_as NonePending = Normal
-dispatched_as (Pending i) = RunningInterrupt i
+abbrev pub dispatched_as : Option InterruptType → Outcome
+dispatched_as None = Normal
+dispatched_as (Some i) = RunningInterrupt i
 
 -- "write PC's high byte, peek again and take"
-abbrev pub store_and_take : {R : Type 0} → ℕ → ℕ → Does R NextInterrupt
+abbrev pub store_and_take : {R : Type 0} → ℕ → ℕ → Does R (Option InterruptType)
 store_and_take a v = λ s k. write_and_take a v (λ i. k i s)
 
 -- 4. "SP less 1, write PC's high byte, peek again and take; PC is its vector .. IME is cleared. SP less 1, write the old PC's low byte, three idle accesses."

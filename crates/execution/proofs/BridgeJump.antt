@@ -14,7 +14,8 @@ use Rattle.definition.specs.Step.{Ended}
 use Rattle.instruction.specs.Row.{condition, jump_row}
 use Rattle.bus.specs.World.{World, leads}
 use Rattle.instruction.specs.Holding.{check_cond, is_unconditional}
-use Rattle.execution.specs.Mirror.{Made, exec_row, mirroring}
+use Rattle.execution.specs.Mirror.{exec_row, mirroring}
+use Rattle.execution.specs.declared.Made.{Made}
 
 same_test : (c : Cond) (f : ℕ) → check_cond (condition c) f ≡ holds c f
 unfolding mirroring

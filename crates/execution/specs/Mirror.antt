@@ -13,12 +13,8 @@ use Rattle.sm83.specs.State.{write_a, write_f, write_sp, set_pc, set_ime, set_la
 use Rattle.opcodes.specs.Arithmetic.{Result, alu_op, acc_op, shift_op, increment, decrement, bit_test, word_sum_flags, offset_flags}
 use Rattle.opcodes.specs.Instruction.{Alu, ADD, ADC, SUB, SBC, AND, XOR, OR, CP, Acc, RLCA, RRCA, RLA, RRA, DAA, CPL, SCF, CCF, Shift, RLC, RRC, RL, RR, SLA, SRA, SWAP, SRL}
 use Rattle.operands.specs.Operands.{read_operand, write_operand}
+use Rattle.execution.specs.declared.Made.{Made}
 use Rattle.definition.specs.Execution.{Does, ◌>>=◌, ◌>>◌, give, nothing, change, reg, set_reg, reg_a, reg_f, reg_sp, reg_pc, reg_hl, idle, push, pop, halt, go_to, call, return}
-
--- what the match of `exec_instruction` makes: the value to be written, and the outcome
-pub record Made : Type 0 where
-  pub value : ℕ
-  pub outcome : Outcome
 
 abbrev pub made : {R : Type 0} → ℕ → Does R Made
 made v = give (record { value = v; outcome = Normal })

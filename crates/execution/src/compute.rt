@@ -1,12 +1,10 @@
 // What an instruction does between its operands: the match of `exec_instruction`.
 ghost use Rattle.std.specs.Prelude.{T};
-ghost use Rattle.bus.specs.World.{Given};
 ghost use Rattle.bus.specs.Leads.{Runs};
 ghost use Rattle.execution.specs.Mirror.{compute};
-ghost use Rattle.execution.specs.Worked.{made_by};
 ghost use Rattle.execution.specs.Runnable.{executable};
 
-use crate::Worked;
+use crate::Made;
 use crate::halt::halt;
 use crate::illegal::illegal;
 use crate::jumps::{call, call_to, jp, jr, jump, ret, reti};
@@ -17,14 +15,21 @@ use arithmetic::sums::{adc, add, cp, dec, inc, sbc, sub};
 use bits::logic::{and, ccf, cpl, or, scf, xor};
 use bits::shifts::{rl, rla, rlc, rlca, rr, rra, rrc, rrca, sla, sra, srl, swap};
 use bits::single_bits::{bit, res, set};
-use bus::Port;
+use bus::{Left, Memory, Port};
 use instruction::Opcode;
 use sm83::{Addr, Cpu};
 
 // The match in the order of the Rust. The fetch takes the opcode behind PREFIX.
-pub fn compute(cpu: Cpu, port: Port, opcode: Opcode, src: u16, at: Addr, mem: &mut [u8]) -> Worked
-    requires { Given mem.old (T (executable opcode)) }
-    ensures { Runs (compute opcode at.0 src) cpu port mem.old (made_by result) result.cpu result.port mem.new }
+pub fn compute(
+    cpu: Cpu,
+    port: Port,
+    opcode: Opcode,
+    src: u16,
+    at: Addr,
+    mem: &mut Memory,
+) -> Left<Made>
+    requires { T (executable opcode) }
+    ensures { Runs (compute opcode at.0 src) cpu port mem.old result.value result.cpu result.port mem.new }
 {
     let regs = cpu.registers;
     let a = regs.a;

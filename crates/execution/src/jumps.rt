@@ -1,15 +1,15 @@
 // Jumps, calls and returns.
-ghost use Rattle.std.specs.Prelude.{◌&&◌, ◌≡◌, eqb, length, if◌then◌else◌};
+ghost use Rattle.std.specs.Prelude.{◌&&◌, ◌≡◌, eqb, if◌then◌else◌};
 ghost use Rattle.outcome.specs.declared.Outcome.TheVariants.{Normal, InfiniteLoop};
 ghost use Rattle.sm83.specs.State.{set_pc};
 ghost use Rattle.bus.specs.Leads.{Runs};
 ghost use Rattle.execution.specs.Mirror.{jp_made, jr_made, call_made, call_if_made, ret_made, ret_if_made, reti_made};
-ghost use Rattle.execution.specs.Worked.{made_by, worked};
+ghost use Rattle.execution.specs.Worked.{worked};
 ghost use Rattle.execution.specs.Unless.{IdlesUnless};
 
-use crate::Worked;
+use crate::Made;
 use crate::results::normal;
-use bus::{Port, idle};
+use bus::{Left, Memory, Port, idle};
 use instruction::Condition;
 use instruction::conditions::{check_cond, is_unconditional};
 use operands::stack::{stack_pop, stack_push};
@@ -18,7 +18,7 @@ use sm83::state::with_registers;
 use sm83::{Addr, Cpu};
 
 // PC is the target; the outcome says whether a sure jump is to its own start.
-pub fn jump(cpu: Cpu, port: Port, to: u16, at: Addr, sure: bool) -> Worked
+pub fn jump(cpu: Cpu, port: Port, to: u16, at: Addr, sure: bool) -> Left<Made>
     ensures { result ≡ worked (set_pc to cpu) port 0 (if sure && eqb to at.0 then InfiniteLoop else Normal) }
 {
     let mut regs = cpu.registers;
@@ -27,20 +27,21 @@ pub fn jump(cpu: Cpu, port: Port, to: u16, at: Addr, sure: bool) -> Worked
     let s = with_registers(cpu, regs);
     let looping = sure & (to == at.0);
     if looping {
-        Worked {
+        Left {
             cpu: s,
             port: port,
-            value: 0,
-            outcome: Outcome::InfiniteLoop,
+            value: Made {
+                value: 0,
+                outcome: Outcome::InfiniteLoop,
+            },
         }
     } else {
         normal(s, port, 0)
     }
 }
 
-pub fn jp(cpu: Cpu, port: Port, cond: Condition, to: u16, at: Addr, mem: &mut [u8]) -> Worked
-    requires { length mem.old ≡ 65536 }
-    ensures { Runs (jp_made cond at.0 to) cpu port mem.old (made_by result) result.cpu result.port mem.new }
+pub fn jp(cpu: Cpu, port: Port, cond: Condition, to: u16, at: Addr, mem: &mut Memory) -> Left<Made>
+    ensures { Runs (jp_made cond at.0 to) cpu port mem.old result.value result.cpu result.port mem.new }
 {
     let regs = cpu.registers;
     let go = check_cond(cond, regs.f);
@@ -52,9 +53,8 @@ pub fn jp(cpu: Cpu, port: Port, cond: Condition, to: u16, at: Addr, mem: &mut [u
     }
 }
 
-pub fn jr(cpu: Cpu, port: Port, cond: Condition, by: u16, at: Addr, mem: &mut [u8]) -> Worked
-    requires { length mem.old ≡ 65536 }
-    ensures { Runs (jr_made cond at.0 by) cpu port mem.old (made_by result) result.cpu result.port mem.new }
+pub fn jr(cpu: Cpu, port: Port, cond: Condition, by: u16, at: Addr, mem: &mut Memory) -> Left<Made>
+    ensures { Runs (jr_made cond at.0 by) cpu port mem.old result.value result.cpu result.port mem.new }
 {
     let regs = cpu.registers;
     let go = check_cond(cond, regs.f);
@@ -69,9 +69,8 @@ pub fn jr(cpu: Cpu, port: Port, cond: Condition, by: u16, at: Addr, mem: &mut [u
 }
 
 // The way back to the stack, then PC.
-pub fn call_to(cpu: Cpu, port: Port, to: u16, mem: &mut [u8]) -> Worked
-    requires { length mem.old ≡ 65536 }
-    ensures { Runs (call_made to) cpu port mem.old (made_by result) result.cpu result.port mem.new }
+pub fn call_to(cpu: Cpu, port: Port, to: u16, mem: &mut Memory) -> Left<Made>
+    ensures { Runs (call_made to) cpu port mem.old result.value result.cpu result.port mem.new }
 {
     let p = idle(port, mem);
     let back = cpu.registers;
@@ -84,9 +83,8 @@ pub fn call_to(cpu: Cpu, port: Port, to: u16, mem: &mut [u8]) -> Worked
     normal(with_registers(s, regs), q, 0)
 }
 
-pub fn call(cpu: Cpu, port: Port, cond: Condition, to: u16, mem: &mut [u8]) -> Worked
-    requires { length mem.old ≡ 65536 }
-    ensures { Runs (call_if_made cond to) cpu port mem.old (made_by result) result.cpu result.port mem.new }
+pub fn call(cpu: Cpu, port: Port, cond: Condition, to: u16, mem: &mut Memory) -> Left<Made>
+    ensures { Runs (call_if_made cond to) cpu port mem.old result.value result.cpu result.port mem.new }
 {
     let regs = cpu.registers;
     let go = check_cond(cond, regs.f);
@@ -97,9 +95,8 @@ pub fn call(cpu: Cpu, port: Port, cond: Condition, to: u16, mem: &mut [u8]) -> W
     }
 }
 
-fn ret_now(cpu: Cpu, port: Port, mem: &mut [u8]) -> Worked
-    requires { length mem.old ≡ 65536 }
-    ensures { Runs ret_made cpu port mem.old (made_by result) result.cpu result.port mem.new }
+fn ret_now(cpu: Cpu, port: Port, mem: &mut Memory) -> Left<Made>
+    ensures { Runs ret_made cpu port mem.old result.value result.cpu result.port mem.new }
 {
     let x = stack_pop(cpu, port, mem);
     let s = x.cpu;
@@ -112,16 +109,14 @@ fn ret_now(cpu: Cpu, port: Port, mem: &mut [u8]) -> Worked
 }
 
 // A return that is not sure idles before its condition is looked at.
-fn idle_unless(sure: bool, port: Port, mem: &mut [u8]) -> Port
-    requires { length mem.old ≡ 65536 }
+fn idle_unless(sure: bool, port: Port, mem: &mut Memory) -> Port
     ensures { IdlesUnless sure port mem.old result mem.new }
 {
     if sure { port } else { idle(port, mem) }
 }
 
-pub fn ret(cpu: Cpu, port: Port, cond: Condition, mem: &mut [u8]) -> Worked
-    requires { length mem.old ≡ 65536 }
-    ensures { Runs (ret_if_made cond) cpu port mem.old (made_by result) result.cpu result.port mem.new }
+pub fn ret(cpu: Cpu, port: Port, cond: Condition, mem: &mut Memory) -> Left<Made>
+    ensures { Runs (ret_if_made cond) cpu port mem.old result.value result.cpu result.port mem.new }
 {
     let p = idle_unless(is_unconditional(cond), port, mem);
     let regs = cpu.registers;
@@ -133,9 +128,8 @@ pub fn ret(cpu: Cpu, port: Port, cond: Condition, mem: &mut [u8]) -> Worked
     }
 }
 
-pub fn reti(cpu: Cpu, port: Port, mem: &mut [u8]) -> Worked
-    requires { length mem.old ≡ 65536 }
-    ensures { Runs reti_made cpu port mem.old (made_by result) result.cpu result.port mem.new }
+pub fn reti(cpu: Cpu, port: Port, mem: &mut Memory) -> Left<Made>
+    ensures { Runs reti_made cpu port mem.old result.value result.cpu result.port mem.new }
 {
     let x = stack_pop(cpu, port, mem);
     let p = x.port;

@@ -4,25 +4,27 @@ ghost use Rattle.outcome.specs.declared.Outcome.TheVariants.{Normal, Breakpoint}
 ghost use Rattle.sm83.specs.State.{on_registers, write_a, write_f, set_stopped, set_ime, set_latch};
 ghost use Rattle.execution.specs.Worked.{worked};
 
-use crate::Worked;
+use crate::Made;
 use arithmetic::Computed;
-use bus::Port;
+use bus::{Left, Port};
 use outcome::Outcome;
 use sm83::Cpu;
 use sm83::state::with_registers;
 
-pub fn normal(cpu: Cpu, port: Port, value: u16) -> Worked
+pub fn normal(cpu: Cpu, port: Port, value: u16) -> Left<Made>
     ensures { result ≡ worked cpu port value Normal }
 {
-    Worked {
+    Left {
         cpu: cpu,
         port: port,
-        value: value,
-        outcome: Outcome::Normal,
+        value: Made {
+            value: value,
+            outcome: Outcome::Normal,
+        },
     }
 }
 
-pub fn with_flags(cpu: Cpu, port: Port, flags: u8, value: u16) -> Worked
+pub fn with_flags(cpu: Cpu, port: Port, flags: u8, value: u16) -> Left<Made>
     ensures { result ≡ worked (on_registers (write_f flags) cpu) port value Normal }
 {
     let mut regs = cpu.registers;
@@ -31,13 +33,13 @@ pub fn with_flags(cpu: Cpu, port: Port, flags: u8, value: u16) -> Worked
     normal(s, port, value)
 }
 
-pub fn with_result(cpu: Cpu, port: Port, x: Computed) -> Worked
+pub fn with_result(cpu: Cpu, port: Port, x: Computed<u8>) -> Left<Made>
     ensures { result ≡ worked (on_registers (write_f x.flags) cpu) port x.value Normal }
 {
     with_flags(cpu, port, x.flags, x.value as u16)
 }
 
-pub fn with_a(cpu: Cpu, port: Port, x: Computed) -> Worked
+pub fn with_a(cpu: Cpu, port: Port, x: Computed<u8>) -> Left<Made>
     ensures { result ≡ worked (on_registers (λ q. write_f x.flags (write_a x.value q)) cpu) port 0 Normal }
 {
     let mut regs = cpu.registers;
@@ -48,7 +50,7 @@ pub fn with_a(cpu: Cpu, port: Port, x: Computed) -> Worked
 }
 
 // STOP: the bus is stopped, and every step after it answers so.
-pub fn stop(cpu: Cpu, port: Port) -> Worked
+pub fn stop(cpu: Cpu, port: Port) -> Left<Made>
     ensures { result ≡ worked (set_stopped true cpu) port 0 Normal }
 {
     let mut s = cpu;
@@ -56,7 +58,7 @@ pub fn stop(cpu: Cpu, port: Port) -> Worked
     normal(s, port, 0)
 }
 
-pub fn di(cpu: Cpu, port: Port) -> Worked
+pub fn di(cpu: Cpu, port: Port) -> Left<Made>
     ensures { result ≡ worked (set_ime false cpu) port 0 Normal }
 {
     let mut s = cpu;
@@ -65,7 +67,7 @@ pub fn di(cpu: Cpu, port: Port) -> Worked
 }
 
 // The latch opens IME before the next instruction.
-pub fn ei(cpu: Cpu, port: Port) -> Worked
+pub fn ei(cpu: Cpu, port: Port) -> Left<Made>
     ensures { result ≡ worked (set_latch true cpu) port 0 Normal }
 {
     let mut s = cpu;
@@ -74,14 +76,16 @@ pub fn ei(cpu: Cpu, port: Port) -> Worked
 }
 
 // LD B,B: a breakpoint, with the registers as they are.
-pub fn breakpoint(cpu: Cpu, port: Port) -> Worked
+pub fn breakpoint(cpu: Cpu, port: Port) -> Left<Made>
     ensures { result ≡ worked cpu port 0 (Breakpoint cpu.registers) }
 {
     let regs = cpu.registers;
-    Worked {
+    Left {
         cpu: cpu,
         port: port,
-        value: 0,
-        outcome: Outcome::Breakpoint(regs),
+        value: Made {
+            value: 0,
+            outcome: Outcome::Breakpoint(regs),
+        },
     }
 }

@@ -1,7 +1,6 @@
-// When a jump is taken, and the numbers by which the tables name it.
+// When a jump is taken.
 ghost use Rattle.std.specs.Prelude.{◌≡◌};
 ghost use Rattle.instruction.specs.Holding.{check_cond, is_unconditional};
-ghost use Rattle.instruction.specs.Numbered.{condition_at};
 
 use crate::Condition;
 use sm83::flags::{flag_c, flag_z};
@@ -20,26 +19,9 @@ pub fn check_cond(cond: Condition, f: u8) -> bool
     }
 }
 
+#[tactic(auto, unfolding(crate::specs::Holding::is_unconditional))]
 pub fn is_unconditional(cond: Condition) -> bool
     ensures { result ≡ is_unconditional cond }
 {
-    match cond {
-        Condition::NC => false,
-        Condition::C => false,
-        Condition::NZ => false,
-        Condition::Z => false,
-        Condition::Unconditional => true,
-    }
-}
-
-pub(crate) fn condition_of(n: u8) -> Condition
-    ensures { result ≡ condition_at n }
-{
-    match n {
-        0 => Condition::Unconditional,
-        1 => Condition::NZ,
-        2 => Condition::Z,
-        3 => Condition::NC,
-        _ => Condition::C,
-    }
+    matches!(cond, Condition::Unconditional)
 }

@@ -1,25 +1,31 @@
-// An instruction of 001, from its byte and its entry of a table. Its address, which the Rust keeps in it, stands beside it here.
+// An instruction of 001, from its byte. Its address, which the Rust keeps in it, stands beside it here.
 ghost use Rattle.std.specs.Prelude.{◌≡◌};
+ghost use Rattle.opcodes.specs.Instruction.{decode, decode_cb};
 ghost use Rattle.instruction.specs.Entry.{row_at};
+ghost use Rattle.instruction.specs.Row.{row_of, prefixed_row};
 
-use crate::Instruction;
-use crate::conditions::condition_of;
-use crate::numbered::opcode_of;
-use crate::operand::operand_of;
+use crate::instructions_table::instructions;
+use crate::prefixed_table::prefixed_instructions;
+use crate::{Entry, Instruction};
 
 impl Instruction {
-    // What an entry of either table stands for. A step calls this once, whichever table the entry is from.
-    pub fn from_entry(entry: u32, byte: u8) -> Instruction
-        ensures { result ≡ row_at entry byte }
+    pub fn from_byte(byte: u8) -> Self
+        ensures { result ≡ row_of (decode byte) }
     {
-        let condition = condition_of((entry / 1024 % 8) as u8);
-        let opcode = opcode_of((entry / 8192 % 64) as u8, condition, byte);
-        let dest = operand_of((entry / 32 % 32) as u8);
-        let src = operand_of((entry % 32) as u8);
-        Instruction {
-            opcode: opcode,
-            src: src,
-            dest: dest,
-        }
+        from_entry(instructions()[byte as usize])
     }
+
+    // The byte after CB.
+    pub fn from_prefix(byte: u8) -> Self
+        ensures { result ≡ prefixed_row (decode_cb byte) }
+    {
+        from_entry(prefixed_instructions()[byte as usize])
+    }
+}
+
+fn from_entry(entry: Entry) -> Instruction
+    ensures { result ≡ row_at entry }
+{
+    let (opcode, (dest, src)) = entry;
+    Instruction { opcode, src, dest }
 }

@@ -3,11 +3,8 @@
 
 pub mod conditions;
 mod decoding;
-mod entry_codes;
-pub mod instructions_table;
-mod numbered;
-mod operand;
-pub mod prefixed_table;
+mod instructions_table;
+mod prefixed_table;
 
 #[derive(Clone, Copy)]
 pub enum Condition {
@@ -112,3 +109,6 @@ pub struct Instruction {
     pub src: OperandType,
     pub dest: OperandType,
 }
+
+// An entry of a table: an opcode, where its result goes, where its operand comes from.
+pub(crate) type Entry = (Opcode, (OperandType, OperandType));

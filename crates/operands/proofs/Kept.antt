@@ -2,7 +2,6 @@
 use mathlib.Core.Path.{◌≡◌}
 use mathlib.Core.List.{List}
 use Prim.Native.Nat.{ℕ}
-use lib.ListN.{length}
 use Rattle.sm83.specs.declared.Cpu.{Cpu}
 use Rattle.definition.specs.Step.{Ended}
 use Rattle.definition.specs.Execution.{Does, give}
@@ -10,5 +9,5 @@ use Rattle.bus.specs.declared.Port.{Port}
 use Rattle.bus.specs.Leads.{Reaches}
 use Rattle.operands.specs.Keeps.{Keeps}
 
-pub here : {A : Type 0} {p : Does Ended A} {s t : Cpu} {port port' : Port} {a : A} {m : List ℕ} → length m ≡ 65536 → Keeps p s port a t port' → Reaches p s port m (give a) t port' m
-here {m = m} long h = record { there = h.there m; whole = long }
+pub here : {A : Type 0} {p : Does Ended A} {s t : Cpu} {port port' : Port} {a : A} {m : List ℕ} → Keeps p s port a t port' → Reaches p s port m (give a) t port' m
+here {m = m} h = record { there = h.there m }

@@ -1,2 +1,3 @@
 -- The laws that both matches go by.
 pub mod Kept
+pub mod Moving

@@ -7,6 +7,13 @@ use Rattle.definition.specs.Bus.{Operand}
 use Rattle.sm83.specs.State.{pair_af, pair_bc, pair_de, write_a, write_sp, put_bc, put_de, put_hl, write_bc, write_de, write_hl, write_af}
 use Rattle.definition.specs.Execution.{Does, ◌>>=◌, ◌>>◌, give, nothing, reg, set_reg, reg_a, reg_c, reg_sp, reg_hl, load, store, imm8, imm16, high}
 
+-- a byte at HL, which then is moved on or back
+abbrev pub read_moving : {R : Type 0} → ℕ → ℕ → Does R ℕ
+read_moving hl after = do v ← load Operand hl; set_reg (write_hl after); give v
+
+abbrev pub write_moving : {R : Type 0} → ℕ → ℕ → ℕ → Does R (Unit {0})
+write_moving hl after v = do store Operand hl v; set_reg (write_hl after)
+
 -- `read_operand`; Addr16Val16 is never read
 unfoldable pub read_operand : {R : Type 0} → OperandType → Does R ℕ
 read_operand ot.RegA = reg_a
@@ -17,8 +24,8 @@ read_operand ot.RegE = reg (λ r. r.e)
 read_operand ot.RegH = reg (λ r. r.h)
 read_operand ot.RegL = reg (λ r. r.l)
 read_operand ot.AddrHL = do a ← reg_hl; load Operand a
-read_operand ot.AddrHLDec = do a ← reg_hl; v ← load Operand a; set_reg (write_hl (back a)); give v
-read_operand ot.AddrHLInc = do a ← reg_hl; v ← load Operand a; set_reg (write_hl (next a)); give v
+read_operand ot.AddrHLDec = do a ← reg_hl; read_moving a (back a)
+read_operand ot.AddrHLInc = do a ← reg_hl; read_moving a (next a)
 read_operand ot.AddrBC = do a ← reg pair_bc; load Operand a
 read_operand ot.AddrDE = do a ← reg pair_de; load Operand a
 read_operand ot.RegAF = reg pair_af
@@ -45,8 +52,8 @@ write_operand ot.RegE v = set_reg (λ r. put_de r.d (low_byte v) r)
 write_operand ot.RegH v = set_reg (λ r. put_hl (low_byte v) r.l r)
 write_operand ot.RegL v = set_reg (λ r. put_hl r.h (low_byte v) r)
 write_operand ot.AddrHL v = do a ← reg_hl; store Operand a (low_byte v)
-write_operand ot.AddrHLDec v = do a ← reg_hl; store Operand a (low_byte v); set_reg (write_hl (back a))
-write_operand ot.AddrHLInc v = do a ← reg_hl; store Operand a (low_byte v); set_reg (write_hl (next a))
+write_operand ot.AddrHLDec v = do a ← reg_hl; write_moving a (back a) (low_byte v)
+write_operand ot.AddrHLInc v = do a ← reg_hl; write_moving a (next a) (low_byte v)
 write_operand ot.AddrBC v = do a ← reg pair_bc; store Operand a (low_byte v)
 write_operand ot.AddrDE v = do a ← reg pair_de; store Operand a (low_byte v)
 write_operand ot.RegAF v = set_reg (write_af v)

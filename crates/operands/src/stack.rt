@@ -1,15 +1,14 @@
 // The stack: it grows down, and a word's high byte goes first.
-ghost use Rattle.std.specs.Prelude.{◌≡◌, length};
+ghost use Rattle.std.specs.Prelude.{◌≡◌};
 ghost use Rattle.definition.specs.Execution.{push, pop};
 ghost use Rattle.bus.specs.Leads.{Runs};
 
-use bus::{AccessKind, Both, Port, Val16};
+use bus::{AccessKind, Left, Memory, Port};
 use sm83::Cpu;
 use sm83::registers::pair;
 use sm83::state::with_registers;
 
-pub fn stack_push(cpu: Cpu, port: Port, value: u16, mem: &mut [u8]) -> Both
-    requires { length mem.old ≡ 65536 }
+pub fn stack_push(cpu: Cpu, port: Port, value: u16, mem: &mut Memory) -> Left<()>
     ensures { Runs (push value) cpu port mem.old tt result.cpu result.port mem.new }
 {
     let mut regs = cpu.registers;
@@ -20,11 +19,14 @@ pub fn stack_push(cpu: Cpu, port: Port, value: u16, mem: &mut [u8]) -> Both
     let q = bus::write(p, mem, AccessKind::Stack, second, (value % 256) as u8);
     regs.sp = second;
     let s = with_registers(cpu, regs);
-    Both { cpu: s, port: q }
+    Left {
+        cpu: s,
+        port: q,
+        value: (),
+    }
 }
 
-pub fn stack_pop(cpu: Cpu, port: Port, mem: &mut [u8]) -> Val16
-    requires { length mem.old ≡ 65536 }
+pub fn stack_pop(cpu: Cpu, port: Port, mem: &mut Memory) -> Left<u16>
     ensures { Runs pop cpu port mem.old result.value result.cpu result.port mem.new }
 {
     let mut regs = cpu.registers;
@@ -37,7 +39,7 @@ pub fn stack_pop(cpu: Cpu, port: Port, mem: &mut [u8]) -> Val16
     let after = second.wrapping_add(1);
     regs.sp = after;
     let s = with_registers(cpu, regs);
-    Val16 {
+    Left {
         cpu: s,
         port: q,
         value: pair(high.value, low.value),

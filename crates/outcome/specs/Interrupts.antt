@@ -1,9 +1,7 @@
 -- An interrupt's number, and whether there is one.
-use Rattle.std.specs.Prelude.{Bool, true, false, ℕ}
+use Rattle.std.specs.Prelude.{Bool, true, false, ℕ, None, Option, Some}
 use Rattle.outcome.specs.declared.interrupt.InterruptType.{InterruptType}
 use Rattle.outcome.specs.declared.interrupt.InterruptType.TheVariants.{Vblank, LcdStat, Timer, Serial, Joypad}
-use Rattle.outcome.specs.declared.interrupt.NextInterrupt.{NextInterrupt}
-use Rattle.outcome.specs.declared.interrupt.NextInterrupt.TheVariants.{NonePending, Pending}
 
 -- "Interrupts 0 to 4"
 abbrev pub interrupt_number : InterruptType → ℕ
@@ -14,6 +12,6 @@ interrupt_number Serial = 3
 interrupt_number Joypad = 4
 
 -- an interrupt, or none
-abbrev pub is_pending : NextInterrupt → Bool
-is_pending NonePending = false
-is_pending (Pending i) = true
+abbrev pub is_pending : Option InterruptType → Bool
+is_pending None = false
+is_pending (Some i) = true

@@ -1,5 +1,5 @@
 -- What each answer of a step and of a run says: its number in the document, and the values that come with it. Every promise uses these.
-use Rattle.std.specs.Prelude.{ℕ, ◌+◌}
+use Rattle.std.specs.Prelude.{ℕ, ◌+◌, None, Option, Some}
 use Rattle.sm83.specs.declared.Addr.{Addr}
 use Rattle.sm83.specs.declared.CpuRegisters.{CpuRegisters}
 use Rattle.outcome.specs.declared.interrupt.InterruptType.{InterruptType}
@@ -8,8 +8,6 @@ use Rattle.outcome.specs.declared.Refusal.{Refusal}
 use Rattle.outcome.specs.declared.Refusal.TheVariants.{MemoryLength, LowBitsOfF, IllegalOpcode}
 use Rattle.outcome.specs.declared.Outcome.{Outcome}
 use Rattle.outcome.specs.declared.Outcome.TheVariants.{Normal, InfiniteLoop, Halting, RunningHDMA, Stopped, RunningInterrupt, Breakpoint, Refused}
-use Rattle.outcome.specs.declared.LastOutcome.{LastOutcome}
-use Rattle.outcome.specs.declared.LastOutcome.TheVariants.{NothingRun, Last}
 
 -- the table of "When the core says no": what a step or a run gives
 abbrev pub number_of : Refusal → ℕ
@@ -43,12 +41,12 @@ outcome_says (RunningInterrupt i) = says (8 + interrupt_number i) (the_interrupt
 outcome_says (Refused r) = says (16 + number_of r) no_value
 
 -- a run's last outcome; "nothing run" has 6, which no outcome has
-abbrev pub last_says : LastOutcome → Said
-last_says NothingRun = says 6 no_value
-last_says (Last o) = outcome_says o
+abbrev pub last_says : Option Outcome → Said
+last_says None = says 6 no_value
+last_says (Some o) = outcome_says o
 
 abbrev pub outcome_number : Outcome → ℕ
 outcome_number o = (outcome_says o).number
 
-abbrev pub last_number : LastOutcome → ℕ
+abbrev pub last_number : Option Outcome → ℕ
 last_number l = (last_says l).number

@@ -12,12 +12,11 @@ pub enum InterruptType {
 }
 
 impl InterruptType {
-    // `int_type as usize` of the Rust.
+    // `int_type as usize` of the Rust. It stays a match: docs/01-scope.md, "What must change shape", names it.
     pub fn number(self) -> u8
         ensures { result ≡ interrupt_number self }
     {
-        let interrupt = self;
-        match interrupt {
+        match self {
             InterruptType::Vblank => 0,
             InterruptType::LcdStat => 1,
             InterruptType::Timer => 2,
@@ -27,22 +26,9 @@ impl InterruptType {
     }
 }
 
-// What peeking and taking answer: `Option<InterruptType>` of the Rust.
-#[derive(Clone, Copy)]
-pub enum NextInterrupt {
-    NonePending,
-    Pending(InterruptType),
-}
-
-impl NextInterrupt {
-    // `is_some` of the Rust.
-    pub fn is_pending(self) -> bool
-        ensures { result ≡ is_pending self }
-    {
-        let next = self;
-        match next {
-            NextInterrupt::NonePending => false,
-            NextInterrupt::Pending(_) => true,
-        }
-    }
+// Of what peeking and taking answer: `is_some` of the Rust.
+pub fn is_pending(next: Option<InterruptType>) -> bool
+    ensures { result ≡ is_pending next }
+{
+    next.is_some()
 }

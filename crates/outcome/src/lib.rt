@@ -12,25 +12,21 @@ pub mod interrupt;
 // Why a step or a run says no, in the order of the document's table. The screen's refusals are a kind of their own.
 #[derive(Clone, Copy)]
 pub enum Refusal {
-    MemoryLength,
-    LowBitsOfF,
-    IllegalOpcode,
+    MemoryLength = 1,
+    LowBitsOfF = 2,
+    IllegalOpcode = 3,
 }
 
 impl Refusal {
     pub fn number(self) -> u8
         ensures { result ≡ number_of self }
     {
-        let refusal = self;
-        match refusal {
-            Refusal::MemoryLength => 1,
-            Refusal::LowBitsOfF => 2,
-            Refusal::IllegalOpcode => 3,
-        }
+        self as u8
     }
 }
 
-// `CpuState` and `RunError` of the Rust in one.
+// `CpuState` and `RunError` of the Rust in one, and no `Result`: a refusal leaves a state, bytes and M-cycles of its own, which `?` would pass over,
+// and ends a run as a breakpoint does.
 #[derive(Clone, Copy)]
 pub enum Outcome {
     Normal,
@@ -48,35 +44,25 @@ impl Outcome {
     pub fn number(self) -> u16
         ensures { result ≡ outcome_number self }
     {
-        let outcome = self;
-        match outcome {
+        match self {
             Outcome::Normal => 0,
             Outcome::InfiniteLoop => 1,
             Outcome::Halting => 2,
             Outcome::RunningHDMA => 3,
             Outcome::Stopped => 4,
             Outcome::Breakpoint(_) => 5,
-            Outcome::RunningInterrupt(interrupt) => 8 + (interrupt.number() as u16),
-            Outcome::Refused(refusal) => 16 + (refusal.number() as u16),
+            Outcome::RunningInterrupt(interrupt) => 8 + u16::from(interrupt.number()),
+            Outcome::Refused(refusal) => 16 + u16::from(refusal.number()),
         }
     }
 }
 
-// How a run ended: with its last step's outcome, or with a budget of 0.
-#[derive(Clone, Copy)]
-pub enum LastOutcome {
-    NothingRun,
-    Last(Outcome),
-}
-
-impl LastOutcome {
-    pub fn number(self) -> u16
-        ensures { result ≡ last_number self }
-    {
-        let last = self;
-        match last {
-            LastOutcome::NothingRun => 6,
-            LastOutcome::Last(outcome) => outcome.number(),
-        }
+// Of how a run ended: with its last step's outcome, or with nothing run, its budget being 0.
+pub fn last_number(last: Option<Outcome>) -> u16
+    ensures { result ≡ last_number last }
+{
+    match last {
+        None => 6,
+        Some(outcome) => outcome.number(),
     }
 }

@@ -1,11 +1,11 @@
 -- The parts of an instruction, from registers in range: they ask only for addresses below 65,536, write only bytes, and leave registers in range, whatever bytes memory answers.
+use Rattle.std.specs.Prelude.{Option}
 use Rattle.std.proofs.Common.{if◌then◌else◌}
 use mathlib.Core.Bool.{Bool, true, false}
 use Prim.Native.Nat.{ℕ, ◌*◌, ◌/◌, ◌%◌, ◌<◌}
 use native.Mathlib.Omega.{arith}
 use Rattle.sm83.specs.declared.CpuRegisters.{CpuRegisters}
 use Rattle.sm83.specs.declared.Cpu.{Cpu}
-use Rattle.outcome.specs.declared.interrupt.NextInterrupt.{NextInterrupt}
 use Rattle.sm83.specs.Basics.{word, high_byte, low_byte, next, back}
 use Rattle.definition.specs.Bus as bus
 use Rattle.definition.specs.Bus.{Kind, Operand, Stack, Ask, leaf, read, write, write_and_take}
@@ -14,6 +14,7 @@ use Rattle.opcodes.specs.Arithmetic.{Result}
 use Rattle.opcodes.specs.Instruction.{Reg8, rB, rC, rD, rE, rH, rL, [HL], rA, Reg16, rBC, rDE, rHL, rSP, Stacked, pBC, pDE, pHL, pAF, Pointer, [BC], [DE], [HL+], [HL-]}
 use Rattle.definition.specs.Execution.{Does, ◌>>=◌, ◌>>◌, give, state, change, reg, set_reg, load, store, idle, peek, byte_at_pc, imm8, imm16, get8, put8, get16, put16, get_stacked, put_stacked, pointed, moved, push, pop, into_a, into8}
 use Rattle.ranges.proofs.Ranged.{Ranged, Flags, Sound, ranged_a, ranged_f, ranged_sp, ranged_pc, ranged_bc, ranged_de, ranged_hl}
+use Rattle.outcome.specs.declared.interrupt.InterruptType.{InterruptType}
 
 abbrev pub Byte : ℕ → Type 0
 Byte v = v < 256
@@ -30,8 +31,8 @@ Safe Q (leaf e) = Q e
 Safe Q (read k a f) = Place a × ((v : ℕ) → Byte v → Safe Q (f v))
 Safe Q (write k a v p) = Place a × Byte v × Safe Q p
 Safe Q (bus.idle p) = Safe Q p
-Safe Q (bus.peek f) = (i : NextInterrupt) → Safe Q (f i)
-Safe Q (write_and_take a v f) = Place a × Byte v × ((i : NextInterrupt) → Safe Q (f i))
+Safe Q (bus.peek f) = (i : Option InterruptType) → Safe Q (f i)
+Safe Q (write_and_take a v f) = Place a × Byte v × ((i : Option InterruptType) → Safe Q (f i))
 
 -- from registers in range, a value as P says and registers in range go on
 pub record Keeps {R A : Type 0} (Q : R → Type 0) (P : A → Type 0) (p : Does R A) : Type 0 where

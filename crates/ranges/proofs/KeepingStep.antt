@@ -1,4 +1,5 @@
 -- The step keeps the registers in range and asks and writes as it may. Each line follows a point of the step in the definition.
+use Rattle.std.specs.Prelude.{None, Option, Some}
 use Rattle.std.proofs.Common.{if◌then◌else◌}
 use mathlib.Core.Bool.{Bool, true, false}
 use Prim.Native.Nat.{ℕ}
@@ -10,8 +11,6 @@ use Rattle.outcome.specs.declared.Outcome.TheVariants.{Halting, RunningHDMA, Sto
 use Rattle.sm83.specs.Basics.{high_byte, low_byte, next, back}
 use Rattle.definition.specs.Bus.{Fetch, Stack}
 use Rattle.outcome.specs.declared.interrupt.InterruptType.TheVariants.{Vblank, LcdStat, Timer, Serial, Joypad}
-use Rattle.outcome.specs.declared.interrupt.NextInterrupt.{NextInterrupt}
-use Rattle.outcome.specs.declared.interrupt.NextInterrupt.TheVariants.{NonePending, Pending}
 use Rattle.outcome.specs.Interrupts.{is_pending}
 use Rattle.sm83.specs.State.{pc, sp, set_pc, set_sp, set_ime, set_latch, set_halt}
 use Rattle.opcodes.specs.Instruction.{decode}
@@ -20,18 +19,19 @@ use Rattle.opcodes.proofs.Tested.{at}
 use Rattle.ranges.proofs.Ranged.{Ranged, ranged_pc, ranged_sp}
 use Rattle.ranges.proofs.Keeping.{Byte, Place, Any, Keeps, ◌⟫=◌, ◌⟫◌, given, said, changed, loaded, stored, idled, peeked, either_keeps}
 use Rattle.ranges.proofs.KeepingExecution.{vector_in_range, OutcomeRanged, execute_keeps}
+use Rattle.outcome.specs.declared.interrupt.InterruptType.{InterruptType}
 
-entry_place : (i : NextInterrupt) → Place (entry_of i)
-entry_place NonePending = omega arith
-entry_place (Pending Vblank) = omega arith
-entry_place (Pending LcdStat) = omega arith
-entry_place (Pending Timer) = omega arith
-entry_place (Pending Serial) = omega arith
-entry_place (Pending Joypad) = omega arith
+entry_place : (i : Option InterruptType) → Place (entry_of i)
+entry_place None = omega arith
+entry_place (Some Vblank) = omega arith
+entry_place (Some LcdStat) = omega arith
+entry_place (Some Timer) = omega arith
+entry_place (Some Serial) = omega arith
+entry_place (Some Joypad) = omega arith
 
-interrupt_or_not : (i : NextInterrupt) → OutcomeRanged (dispatched_as i)
-interrupt_or_not NonePending = tt
-interrupt_or_not (Pending i) = tt
+interrupt_or_not : (i : Option InterruptType) → OutcomeRanged (dispatched_as i)
+interrupt_or_not None = tt
+interrupt_or_not (Some i) = tt
 
 -- a byte names no vector out of range
 decode_ranged : (b : ℕ) → Byte b → T (vector_in_range (decode b))

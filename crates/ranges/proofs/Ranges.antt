@@ -1,5 +1,6 @@
 -- The step never changes the length of memory, and keeps every register in its range and F's low bits 0; and so does the run.
 -- The step's tree does so where memory answers bytes; one induction over the tree runs it on any memory that does.
+use Rattle.std.specs.Prelude.{None, Option, Some}
 use mathlib.Core.Path.{◌≡◌, refl, sym, subst, ◌∙◌}
 use mathlib.Core.Bool.{Bool, true, false}
 use mathlib.Core.List.{List}
@@ -10,8 +11,6 @@ use lib.Seq.{get_or-set_same, get_or-set_other, set_out}
 use borrow.Author.Tests.{ltb-true, ltb-false, eqb-true, eqb-false}
 use Rattle.sm83.specs.declared.Cpu.{Cpu}
 use Rattle.definition.specs.Bus.{Kind, Stack, Ask, leaf, read, write, idle, peek, write_and_take, Bus, run_on, byte_at, pending, without, taken, plain}
-use Rattle.outcome.specs.declared.interrupt.NextInterrupt.{NextInterrupt}
-use Rattle.outcome.specs.declared.interrupt.NextInterrupt.TheVariants.{NonePending, Pending}
 use Rattle.outcome.specs.Interrupts.{interrupt_number}
 use Rattle.definition.specs.Step.{Ended, ended, step_tree, Admission, accepted, refused_as, admission, admitted, step_on}
 use Rattle.definition.specs.Run.{run_for}
@@ -20,6 +19,7 @@ use Rattle.ranges.proofs.Keeping.{Safe}
 use Rattle.ranges.proofs.KeepingExecution.{OutcomeRanged}
 use Rattle.ranges.proofs.KeepingStep.{step_keeps}
 use Rattle.definition.proofs.Runs.{LastSays, run_keeps}
+use Rattle.outcome.specs.declared.interrupt.InterruptType.{InterruptType}
 
 -- A memory whose length no access changes.
 pub record Sized {W : Type 0} (b : Bus W) : Type 0 where
@@ -107,9 +107,9 @@ module _ {W : Type 0} (b : Bus W) (Good : W → Type 0) (law : Lawful b Good) wh
 abbrev pub Bytes : List ℕ → Type 0
 Bytes m = (a : ℕ) → byte_at m a < 256
 
-taken_length : (m : List ℕ) (i : NextInterrupt) → length (without i m) ≡ length m
-taken_length m NonePending = refl
-taken_length m (Pending i) = length-set m 0xff0f _
+taken_length : (m : List ℕ) (i : Option InterruptType) → length (without i m) ≡ length m
+taken_length m None = refl
+taken_length m (Some i) = length-set m 0xff0f _
 
 pub plain_sized : Sized plain
 unfolding taken
@@ -137,9 +137,9 @@ set_bytes m a v x true e g p =
     subst (λ (y : ℕ). byte_at (set m a v) y < 256) (sym (eqb-true x a e)) (set_there m a v (ltb a (length m)) refl g p)
 set_bytes m a v x false e g p = subst (λ (y : ℕ). y < 256) (sym (get_or-set_other m a x v 0 (eqb-false x a e))) (g x)
 
-taken_bytes : (m : List ℕ) (i : NextInterrupt) → Bytes m → Bytes (without i m)
-taken_bytes m NonePending g = g
-taken_bytes m (Pending i) g = λ x. set_bytes m 0xff0f _ x (eqb x 0xff0f) refl g (cleared_byte (interrupt_number i) (byte_at m 0xff0f) (g 0xff0f))
+taken_bytes : (m : List ℕ) (i : Option InterruptType) → Bytes m → Bytes (without i m)
+taken_bytes m None g = g
+taken_bytes m (Some i) g = λ x. set_bytes m 0xff0f _ x (eqb x 0xff0f) refl g (cleared_byte (interrupt_number i) (byte_at m 0xff0f) (g 0xff0f))
 
 pub plain_lawful : Lawful plain Bytes
 unfolding taken

@@ -1,5 +1,6 @@
 -- A step refuses for the reasons of the table alone: number 1 only if the length is wrong, 2 only if a low bit of F is set, 3 only if the byte fetched is illegal.
 -- By the course of the step: every other course ends otherwise, and every other instruction too.
+use Rattle.std.specs.Prelude.{None, Option, Some}
 use Rattle.std.proofs.Common.{if◌then◌else◌}
 use mathlib.Core.Path.{◌≡◌, refl, ap, sym, subst, ◌∙◌}
 use mathlib.Core.Logic.{◌≢◌}
@@ -16,15 +17,12 @@ use Rattle.outcome.specs.declared.Outcome.{Outcome}
 use Rattle.outcome.specs.declared.Outcome.TheVariants.{Normal, InfiniteLoop, Halting, RunningHDMA, Stopped, RunningInterrupt, Breakpoint, Refused}
 use Rattle.sm83.specs.Basics.{high_byte, back}
 use Rattle.definition.specs.Bus.{Access, Fetch, Stack, Bus, Performed, run_on, byte_at, plain}
-use Rattle.outcome.specs.declared.interrupt.NextInterrupt.{NextInterrupt}
-use Rattle.outcome.specs.declared.interrupt.NextInterrupt.TheVariants.{NonePending, Pending}
 use Rattle.sm83.specs.State.{pc, sp, flags}
 use Rattle.opcodes.specs.Instruction.{Instruction, ILLEGAL, decode}
 use Rattle.definition.specs.Execution.{execute}
 use Rattle.definition.specs.Step.{dispatched_as, enabled, fetched, instruction, Ended, ended, Admission, accepted, refused_as, admitted, step_on}
 use Rattle.outcome.specs.Numbers.{number_of}
 use Rattle.definition.specs.Run.{run_for}
-use Rattle.outcome.specs.declared.LastOutcome.TheVariants.{Last}
 use Rattle.definition.proofs.Course.{Woke, Passed, Course, point1, point2, point3, point4, points5to7, course, woke_pc}
 use Rattle.definition.proofs.Refused.{is_refused}
 use Rattle.definition.proofs.NeverRefuses.{never_run, execute_never}
@@ -33,6 +31,7 @@ use Rattle.definition.proofs.Refusals.{is_accepted, pc_enabled, accepts}
 use Rattle.definition.proofs.PlainCourse.{woke_same, passed_same}
 use Rattle.definition.proofs.Runs.{LastSays, run_keeps}
 use Rattle.ranges.proofs.Ranges.{Lawful, Sized, InRange, step_ranges, step_size}
+use Rattle.outcome.specs.declared.interrupt.InterruptType.{InterruptType}
 
 -- Why a step may answer a refusal, by its number.
 pub data Why {W : Type 0} (b : Bus W) (s : Cpu) (m : W) : ℕ → Type 0 where
@@ -54,9 +53,9 @@ refusal_number (Refused r) = number_of r
 not_refused : {o : Outcome} {r : Refusal} → T (not (is_refused o)) → o ≡ Refused r → ⊥
 not_refused h e = subst (λ (x : Outcome). T (not (is_refused x))) e h
 
-interrupt_not_refused : (i : NextInterrupt) → T (not (is_refused (dispatched_as i)))
-interrupt_not_refused NonePending = tt
-interrupt_not_refused (Pending i) = tt
+interrupt_not_refused : (i : Option InterruptType) → T (not (is_refused (dispatched_as i)))
+interrupt_not_refused None = tt
+interrupt_not_refused (Some i) = tt
 
 module _ {W : Type 0} (b : Bus W) where
   decoded : (u : Cpu) (v : W) (r : Refusal) (x : Bool) → is_illegal (decode (b.sees v (pc u))) ≡ x → (run_on b (execute (pc u) (decode (b.sees v (pc u))) (fetched u) ended) (b.after_read Fetch v (pc u))).value.outcome ≡ Refused r → (decode (b.sees v (pc u)) ≡ ILLEGAL) × (3 ≡ number_of r)
@@ -121,7 +120,7 @@ module _ {W : Type 0} (b : Bus W) (Good : W → Type 0) (law : Lawful b Good) (s
   three s m n h (low_bit_set z f) = absurd (f h.0.0.low_bits)
   three s m n h (illegal_opcode z f p q woke passed e) = refl
 
-  pub run_refuses_only : (budget : ℕ) (s : Cpu) (m : W) → InRange Good s m → b.size m ≡ 65536 → (r : Refusal) → (run_for b budget s m).last ≡ Last (Refused r) → number_of r ≡ 3
+  pub run_refuses_only : (budget : ℕ) (s : Cpu) (m : W) → InRange Good s m → b.size m ≡ 65536 → (r : Refusal) → (run_for b budget s m).last ≡ Some (Refused r) → number_of r ≡ 3
   run_refuses_only budget s m h z r e =
       subst (LastSays OnlyThree) e
       (run_keeps b Fits OnlyThree (λ t w g. (((step_ranges b Good law t w g.0).0, step_size b sized t w ∙ g.1), λ x p. three t w (number_of x) g (refuses_only b t w x p))) budget s m

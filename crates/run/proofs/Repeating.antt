@@ -1,4 +1,5 @@
 -- A loop of steps is the definition's repeated steps, on whatever memory stands behind the code's: what is done so far and what is left make the run at every turn.
+use Rattle.std.specs.Prelude.{None, Option, Some}
 use Rattle.std.proofs.Common.{if◌then◌else◌}
 use mathlib.Core.Path.{◌≡◌, refl, ap, sym, subst, subst⁻¹, ◌∙◌}
 use mathlib.Core.Bool.{true, false}
@@ -8,8 +9,6 @@ use native.Mathlib.Omega.{arith}
 use lib.ListN.{length}
 use Rattle.sm83.specs.declared.Cpu.{Cpu}
 use Rattle.outcome.specs.declared.Outcome.{Outcome}
-use Rattle.outcome.specs.declared.LastOutcome.{LastOutcome}
-use Rattle.outcome.specs.declared.LastOutcome.TheVariants.{NothingRun, Last}
 use Rattle.definition.specs.Bus.{Bus, mcycles}
 use Rattle.definition.specs.Step.{Ended, ended, accepted, admission, step, step_tree, step_on}
 use Rattle.definition.specs.Run.{RunAnswer, stops_run, then_rest, repeated}
@@ -28,12 +27,12 @@ abbrev further : ℕ → ℕ → RunAnswer (List ℕ) → RunAnswer (List ℕ)
 further n c r = record { last = r.last; cpu = r.cpu; memory = r.memory; steps = n + r.steps; cycles = c + r.cycles }
 
 -- After n steps of a run: its state, its memory, its port and its last outcome.
-pub record Going (b : Bus (List ℕ)) (budget : ℕ) (s₀ : Cpu) (m₀ : List ℕ) (s : Cpu) (m : List ℕ) (p : Port) (last : LastOutcome) (n : ℕ) : Type 0 where
+pub record Going (b : Bus (List ℕ)) (budget : ℕ) (s₀ : Cpu) (m₀ : List ℕ) (s : Cpu) (m : List ℕ) (p : Port) (last : Option Outcome) (n : ℕ) : Type 0 where
   pub within : n ≤ budget
   pub spent : p.cycles.0 ≤ 8 * n
   pub long : length m ≡ 65536
   pub ranges : InRange Bytes s m
-  pub so_far : repeated b NothingRun budget s₀ m₀ ≡ further n p.cycles.0 (repeated b last (budget - n) s m)
+  pub so_far : repeated b None budget s₀ m₀ ≡ further n p.cycles.0 (repeated b last (budget - n) s m)
 
 -- The code's step is the definition's.
 module _ (b : Bus (List ℕ)) (h : Behind b) (s s' : Cpu) (p p' : Port) (m m' : List ℕ) (o : Outcome) (small : p.cycles.0 + 8 < 4294967296) (here : admission b s m ≡ accepted) (l : Leads step s p m o s' p' m') where
@@ -57,34 +56,34 @@ module _ (b : Bus (List ℕ)) (h : Behind b) (s s' : Cpu) (p p' : Port) (m m' : 
       omega (arith, followed.counts)
 
 -- An answer by its parts.
-abbrev answered : LastOutcome → Cpu → List ℕ → ℕ → ℕ → RunAnswer (List ℕ)
+abbrev answered : Option Outcome → Cpu → List ℕ → ℕ → ℕ → RunAnswer (List ℕ)
 answered o s m n c = record { last = o; cpu = s; memory = m; steps = n; cycles = c }
 
-same_counts : (o : LastOutcome) (s : Cpu) (m : List ℕ) (n n' c c' : ℕ) → n ≡ n' → c ≡ c' → answered o s m n c ≡ answered o s m n' c'
+same_counts : (o : Option Outcome) (s : Cpu) (m : List ℕ) (n n' c c' : ℕ) → n ≡ n' → c ≡ c' → answered o s m n c ≡ answered o s m n' c'
 same_counts o s m n n' c c' e f = ap (λ (x : ℕ). answered o s m x c) e ∙ ap (λ (x : ℕ). answered o s m n' x) f
 
 -- One turn of the definition's, from what its step answers.
 abbrev turn : Bus (List ℕ) → Ended → List ℕ → ℕ → ℕ → RunAnswer (List ℕ)
-turn b v m c k = if stops_run v.outcome then answered (Last v.outcome) v.cpu m 1 c else then_rest c (repeated b (Last v.outcome) k v.cpu m)
+turn b v m c k = if stops_run v.outcome then answered (Some v.outcome) v.cpu m 1 c else then_rest c (repeated b (Some v.outcome) k v.cpu m)
 
 module _ (b : Bus (List ℕ)) (h : Behind b) (budget : ℕ) (s₀ : Cpu) (m₀ : List ℕ) where
   -- before the first
-  pub starts : (p : Port) → p.cycles.0 ≡ 0 → length m₀ ≡ 65536 → InRange Bytes s₀ m₀ → Going b budget s₀ m₀ s₀ m₀ p NothingRun 0
+  pub starts : (p : Port) → p.cycles.0 ≡ 0 → length m₀ ≡ 65536 → InRange Bytes s₀ m₀ → Going b budget s₀ m₀ s₀ m₀ p None 0
   starts p e long ranges =
-      let all : RunAnswer (List ℕ) = repeated b NothingRun budget s₀ m₀ in
+      let all : RunAnswer (List ℕ) = repeated b None budget s₀ m₀ in
       record {
         within = omega arith;
         spent = omega arith;
         long = long;
         ranges = ranges;
-        so_far = same_counts all.last all.cpu all.memory _ _ _ _ (omega arith) (omega arith) ∙ ap (λ (k : ℕ). further 0 p.cycles.0 (repeated b NothingRun k s₀ m₀)) (omega arith);
+        so_far = same_counts all.last all.cpu all.memory _ _ _ _ (omega arith) (omega arith) ∙ ap (λ (k : ℕ). further 0 p.cycles.0 (repeated b None k s₀ m₀)) (omega arith);
       }
 
-  module _ (s : Cpu) (m : List ℕ) (p : Port) (last : LastOutcome) (n : ℕ) (g : Going b budget s₀ m₀ s m p last n) where
+  module _ (s : Cpu) (m : List ℕ) (p : Port) (last : Option Outcome) (n : ℕ) (g : Going b budget s₀ m₀ s m p last n) where
     -- after the last
-    pub ends : budget ≤ n → answered last s m n p.cycles.0 ≡ repeated b NothingRun budget s₀ m₀
+    pub ends : budget ≤ n → answered last s m budget p.cycles.0 ≡ repeated b None budget s₀ m₀
     unfolding repeated
-    ends done = sym (g.so_far ∙ ap (λ (k : ℕ). further n p.cycles.0 (repeated b last k s m)) none_left ∙ same_counts last s m _ _ _ _ (omega arith) (omega arith))
+    ends done = sym (g.so_far ∙ ap (λ (k : ℕ). further n p.cycles.0 (repeated b last k s m)) none_left ∙ same_counts last s m _ _ _ _ (omega (arith, g.within)) (omega arith))
       where
         none_left : budget - n ≡ 0
         none_left = omega arith
@@ -124,12 +123,12 @@ module _ (b : Bus (List ℕ)) (h : Behind b) (budget : ℕ) (s₀ : Cpu) (m₀ :
           left = omega arith
 
       -- "it stops early only after InfiniteLoop, Breakpoint, Stopped or a refusal"
-      pub stops_early : stops_run o ≡ true → answered (Last o) s' m' (n + 1) p'.cycles.0 ≡ repeated b NothingRun budget s₀ m₀
-      stops_early e = sym (g.so_far ∙ ap (further n p.cycles.0) (one_turn ∙ if_so _ _ e) ∙ ap (answered (Last o) s' m' (n + 1)) (sym spends))
+      pub stops_early : stops_run o ≡ true → answered (Some o) s' m' (n + 1) p'.cycles.0 ≡ repeated b None budget s₀ m₀
+      stops_early e = sym (g.so_far ∙ ap (further n p.cycles.0) (one_turn ∙ if_so _ _ e) ∙ ap (answered (Some o) s' m' (n + 1)) (sym spends))
 
-      pub goes_on : stops_run o ≡ false → Going b budget s₀ m₀ s' m' p' (Last o) (n + 1)
+      pub goes_on : stops_run o ≡ false → Going b budget s₀ m₀ s' m' p' (Some o) (n + 1)
       goes_on e =
-          let rest : RunAnswer (List ℕ) = repeated b (Last o) (budget - (n + 1)) s' m' in
+          let rest : RunAnswer (List ℕ) = repeated b (Some o) (budget - (n + 1)) s' m' in
           record {
             within = omega arith;
             spent = omega (arith, spends, few, g.spent);

@@ -4,32 +4,26 @@ ghost use Rattle.definition.specs.Run.{stops_run, stops_last, not_run};
 ghost use Rattle.run.specs.Answers.{run_answer};
 
 use crate::Ran;
-use outcome::{LastOutcome, Outcome, Refusal};
+use outcome::{Outcome, Refusal};
 use sm83::{Cpu, MCycles};
 
 // After InfiniteLoop, Breakpoint, Stopped or a refusal.
 pub(crate) fn stops_run(outcome: Outcome) -> bool
     ensures { result ≡ stops_run outcome }
 {
-    match outcome {
-        Outcome::Normal => false,
-        Outcome::InfiniteLoop => true,
-        Outcome::Halting => false,
-        Outcome::RunningHDMA => false,
-        Outcome::Stopped => true,
-        Outcome::RunningInterrupt(_) => false,
-        Outcome::Breakpoint(_) => true,
-        Outcome::Refused(_) => true,
-    }
+    matches!(
+        outcome,
+        Outcome::InfiniteLoop | Outcome::Breakpoint(_) | Outcome::Stopped | Outcome::Refused(_)
+    )
 }
 
 // A run whose last outcome is this one goes no further, whatever is left of its budget.
-pub fn stops_last(last: LastOutcome) -> bool
+pub fn stops_last(last: Option<Outcome>) -> bool
     ensures { result ≡ stops_last last }
 {
     match last {
-        LastOutcome::NothingRun => false,
-        LastOutcome::Last(outcome) => stops_run(outcome),
+        None => false,
+        Some(outcome) => stops_run(outcome),
     }
 }
 
@@ -38,7 +32,7 @@ pub(crate) fn refused(cpu: Cpu, refusal: Refusal, mem: &mut [u8]) -> Ran
     ensures { run_answer result mem.new ≡ not_run refusal cpu mem.old }
 {
     Ran {
-        last: LastOutcome::Last(Outcome::Refused(refusal)),
+        last: Some(Outcome::Refused(refusal)),
         cpu: cpu,
         steps: 0,
         cycles: MCycles(0),

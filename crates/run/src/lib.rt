@@ -9,7 +9,7 @@ ghost use Rattle.run.specs.Answers.{outcome_of, StepAnswers};
 
 use crate::ending::refused;
 use crate::repeat::repeat;
-use outcome::{LastOutcome, Outcome, Refusal};
+use outcome::{Outcome, Refusal};
 use sm83::{Cpu, MCycles};
 
 pub mod ending;
@@ -17,7 +17,7 @@ mod repeat;
 
 #[derive(Clone, Copy)]
 pub struct Ran {
-    pub last: LastOutcome,
+    pub last: Option<Outcome>,
     pub cpu: Cpu,
     pub steps: u16,
     pub cycles: MCycles,
@@ -33,27 +33,24 @@ pub struct Stepped {
 pub fn run(cpu: Cpu, mem: &mut [u8], budget: u16) -> Ran
     ensures { run_answer result mem.new ≡ run_for plain budget cpu mem.old }
 {
-    let whole = mem.len() == 65536;
-    if whole {
-        let regs = cpu.registers;
-        let clear = regs.f % 16 == 0;
-        if clear {
-            repeat(cpu, mem, budget)
-        } else {
-            refused(cpu, Refusal::LowBitsOfF, mem)
+    match mem.as_mut_array::<65536>() {
+        Some(memory) => {
+            let regs = cpu.registers;
+            let clear = regs.f % 16 == 0;
+            if clear {
+                repeat(cpu, memory, budget)
+            } else {
+                refused(cpu, Refusal::LowBitsOfF, memory)
+            }
         }
-    } else {
-        refused(cpu, Refusal::MemoryLength, mem)
+        None => refused(cpu, Refusal::MemoryLength, mem),
     }
 }
 
-fn outcome_of(last: LastOutcome) -> Outcome
+fn outcome_of(last: Option<Outcome>) -> Outcome
     ensures { result ≡ outcome_of last }
 {
-    match last {
-        LastOutcome::NothingRun => Outcome::Normal,
-        LastOutcome::Last(outcome) => outcome,
-    }
+    last.unwrap_or(Outcome::Normal)
 }
 
 // A run of one step.

@@ -33,7 +33,7 @@ pub fn flag_c(f: u8) -> bool
 pub fn bit_of(on: bool) -> u8
     ensures { IsBit on result }
 {
-    if on { 1 } else { 0 }
+    u8::from(on)
 }
 
 pub fn weight(on: bool, place: u8) -> u8

@@ -1,4 +1,5 @@
 -- Points 1 to 4: what the callees answer comes to the definition's step, one law for each way through it.
+use Rattle.std.specs.Prelude.{Option}
 use Rattle.std.proofs.Common.{if◌then◌else◌}
 use mathlib.Core.Path.{◌≡◌, refl, ap, sym, ◌∙◌}
 use mathlib.Core.Bool.{Bool, true, false}
@@ -11,7 +12,6 @@ use Rattle.outcome.specs.declared.Outcome.TheVariants.{Halting, Stopped, Running
 use Rattle.sm83.specs.Basics.{back, high_byte, low_byte}
 use Rattle.definition.specs.Bus as bus
 use Rattle.definition.specs.Bus.{Stack, Ask, write}
-use Rattle.outcome.specs.declared.interrupt.NextInterrupt.{NextInterrupt}
 use Rattle.outcome.specs.Interrupts.{is_pending}
 use Rattle.sm83.specs.State.{pc, sp, set_pc, set_sp, set_ime, set_halt}
 use Rattle.definition.specs.Execution.{Does, ◌>>=◌, ◌>>◌, give, idle, peek}
@@ -21,6 +21,7 @@ use Rattle.bus.specs.declared.Port.{Port}
 use Rattle.bus.specs.World.{World, world, leads, Looks, Writes, Idles, Peeks, Takes}
 use Rattle.bus.specs.Leads.{Leads, LeadsTo}
 use Rattle.step.specs.Stages.{after_halt, interrupted}
+use Rattle.outcome.specs.declared.interrupt.InterruptType.{InterruptType}
 
 -- what is chosen leads where the choice leads
 so : (b : Bool) (p q : Does Ended Outcome) (s : Cpu) (k : Outcome → Cpu → Ask Ended) (w : World) → b ≡ true → leads ((if b then p else q) s k) w ≡ leads (p s k) w
@@ -30,7 +31,7 @@ not_so : (b : Bool) (p q : Does Ended Outcome) (s : Cpu) (k : Outcome → Cpu �
 not_so b p q s k w e = ap (λ (d : Does Ended Outcome). leads (d s k) w) (if_not p q e)
 
 -- 4. "SP less 1, write PC's high byte, peek again and take .."
-pub dispatches : (s : Cpu) (port p q t u v : Port) (m m1 m2 m3 m4 m5 : List ℕ) (first second : ℕ) (i : NextInterrupt) (to : ℕ) (o : Outcome) →
+pub dispatches : (s : Cpu) (port p q t u v : Port) (m m1 m2 m3 m4 m5 : List ℕ) (first second : ℕ) (i : Option InterruptType) (to : ℕ) (o : Outcome) →
     first ≡ back (sp s) → Takes first (high_byte (pc s)) port m i p m1 → second ≡ back first → Writes Stack second (low_byte (pc s)) p m1 q m2 →
     Idles q m2 t m3 → Idles t m3 u m4 → Idles u m4 v m5 → to ≡ entry_of i → o ≡ dispatched_as i →
     Leads dispatch s port m o (set_ime false (set_pc to (set_sp second s))) v m5
@@ -38,7 +39,7 @@ dispatches s port p q t u v m m1 m2 m3 m4 m5 first second i to o e1 h1 e2 h2 h3 
     simp (e4, e3, ← e1, ← e2) (h1.there (λ x. write Stack second (low_byte (pc s)) (rest x)) ∙ h2.there (rest i) ∙ h3.there _ ∙ h4.there _ ∙ h5.there _)
   where
     -- the three bus.idle accesses, and where the step ends
-    rest : NextInterrupt → Ask Ended
+    rest : Option InterruptType → Ask Ended
     rest x = bus.idle (bus.idle (bus.idle (k (dispatched_as x) (set_ime false (set_pc (entry_of x) (set_sp second s))))))
 
 -- 4, or 5 to 7: by one test
@@ -65,7 +66,7 @@ module _ (s : Cpu) (port : Port) (m : List ℕ) (asleep : Bool) (e : asleep ≡ 
   pub not_asleep : asleep ≡ false → LeadsTo (unless_asleep s) s port m (after_halt false) s port m
   not_asleep a k = not_so _ _ awake s k (world port m) (sym e ∙ a)
 
-  module _ (p : Port) (m1 m2 : List ℕ) (i : NextInterrupt) (a : asleep ≡ true) (h1 : Idles port m p m1) (h2 : Peeks m1 i m2) where
+  module _ (p : Port) (m1 m2 : List ℕ) (i : Option InterruptType) (a : asleep ≡ true) (h1 : Idles port m p m1) (h2 : Peeks m1 i m2) where
     peeked : LeadsTo (unless_asleep s) s port m (if is_pending i then woken else give Halting) s p m2
     peeked k = so _ _ awake s k (world port m) (sym e ∙ a) ∙ h1.there _ ∙ h2.there p (λ x. (if is_pending x then woken else give Halting) s k)
 

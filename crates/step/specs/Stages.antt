@@ -10,7 +10,6 @@ use Rattle.sm83.specs.State.{set_pc, set_halt}
 use Rattle.definition.specs.Execution.{Does, give}
 use Rattle.definition.specs.Step.{Ended, is_bug, instruction, awake, unless_asleep}
 use Rattle.instruction.specs.declared.Instruction.{Instruction}
-use Rattle.instruction.specs.Entry.{Tables}
 use Rattle.bus.specs.declared.Port.{Port}
 use Rattle.execution.specs.Mirror.{exec_row}
 use Rattle.execution.specs.Runnable.{runnable}
@@ -23,9 +22,8 @@ after_halt halting = if halting then give Halting else awake
 abbrev pub Wakes : Cpu → Port → List ℕ → Bool → Cpu → Port → List ℕ → Type 0
 Wakes s port m halting = Reaches (unless_asleep s) s port m (after_halt halting)
 
--- points 1 and 2 do not apply, and the tables are there
-pub record Going (s : Cpu) (t u : List ℕ) : Type 0 where
-  pub tables : Tables t u
+-- points 1 and 2 do not apply
+pub record Going (s : Cpu) : Type 0 where
   pub not_stopped : s.stopped ≡ false
   pub no_transfer : s.hdma ≡ false
 

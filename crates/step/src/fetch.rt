@@ -1,14 +1,13 @@
 // Points 5 and 6: the EI latch, the fetch, and the end of HaltBug.
 ghost use Rattle.std.specs.Prelude.{◌≡◌};
 ghost use Rattle.definition.specs.Step.{enabled};
-ghost use Rattle.instruction.specs.Entry.{row_at, Tables};
-ghost use Rattle.bus.specs.World.{Given};
 ghost use Rattle.step.specs.Stages.{unbugged, Fetches};
 
 use crate::Fetched;
 use crate::waking::is_bug;
 use bus::fetch::fetch_next_pc;
-use bus::{AccessKind, Port};
+use bus::{AccessKind, Left, Memory, Port};
+use instruction::Instruction;
 use sm83::state::with_halt;
 use sm83::{Addr, Cpu, HaltMode};
 
@@ -40,15 +39,8 @@ pub fn unbug(cpu: Cpu, at: Addr) -> Cpu
 }
 
 // 5 and 6. After 0xCB another byte says what is to be done.
-pub fn fetch_entry(
-    cpu: Cpu,
-    port: Port,
-    table: &[u32; 256],
-    prefixed: &[u32; 256],
-    mem: &mut [u8],
-) -> Fetched
-    requires { Given mem.old (Tables table.now prefixed.now) }
-    ensures { Fetches cpu port mem.old result.at.0 (row_at result.entry result.byte) result.cpu result.port mem.new }
+pub fn fetch_instruction(cpu: Cpu, port: Port, mem: &mut Memory) -> Left<Fetched>
+    ensures { Fetches cpu port mem.old result.value.at.0 result.value.instruction result.cpu result.port mem.new }
 {
     let c = enable(cpu);
     let regs = c.registers;
@@ -61,19 +53,21 @@ pub fn fetch_entry(
         let y = fetch_next_pc(s, p, AccessKind::Fetch, mem);
         let e = y.cpu;
         let q = y.port;
-        return Fetched {
+        return Left {
             cpu: e,
             port: q,
-            entry: prefixed[y.value as usize],
-            byte: y.value,
-            at: at,
+            value: Fetched {
+                instruction: Instruction::from_prefix(y.value),
+                at: at,
+            },
         };
     }
-    Fetched {
+    Left {
         cpu: s,
         port: p,
-        entry: table[x.value as usize],
-        byte: x.value,
-        at: at,
+        value: Fetched {
+            instruction: Instruction::from_byte(x.value),
+            at: at,
+        },
     }
 }

@@ -1,17 +1,14 @@
-// One step: `next_instruction`, stage by stage in the order of the Rust. The two tables are lent.
+// One step: `next_instruction`, stage by stage in the order of the Rust.
 #![tactic(auto)]
 
 ghost use Rattle.definition.specs.Step.{instruction, awake, step};
-ghost use Rattle.instruction.specs.Entry.{Tables};
-ghost use Rattle.bus.specs.World.{Given};
 ghost use Rattle.bus.specs.Leads.{Runs};
 ghost use Rattle.step.specs.Stages.{Going};
 
 use crate::dispatch::{dispatch, is_interrupted};
-use crate::fetch::fetch_entry;
+use crate::fetch::fetch_instruction;
 use crate::waking::wake;
-use bus::Port;
-use execution::Executed;
+use bus::{Left, Memory, Port};
 use execution::exec::exec_instruction;
 use instruction::Instruction;
 use outcome::Outcome;
@@ -21,116 +18,79 @@ mod dispatch;
 mod fetch;
 pub mod waking;
 
-// What comes of a halt: whether it goes on.
-#[derive(Clone, Copy)]
-pub struct Woken {
-    pub cpu: Cpu,
-    pub port: Port,
-    pub halting: bool,
-}
-
-// The table's entry for what is to be executed, the byte that it stands at, and from where it was fetched.
+// What is to be executed, and from where it was fetched.
 #[derive(Clone, Copy)]
 pub struct Fetched {
-    pub cpu: Cpu,
-    pub port: Port,
-    pub entry: u32,
-    pub byte: u8,
+    pub instruction: Instruction,
     pub at: Addr,
 }
 
 // 5 to 7.
-fn run_one(
-    cpu: Cpu,
-    port: Port,
-    table: &[u32; 256],
-    prefixed: &[u32; 256],
-    mem: &mut [u8],
-) -> Executed
-    requires { Given mem.old (Tables table.now prefixed.now) }
-    ensures { Runs instruction cpu port mem.old result.outcome result.cpu result.port mem.new }
+fn run_one(cpu: Cpu, port: Port, mem: &mut Memory) -> Left<Outcome>
+    ensures { Runs instruction cpu port mem.old result.value result.cpu result.port mem.new }
 {
-    let x = fetch_entry(cpu, port, table, prefixed, mem);
+    let x = fetch_instruction(cpu, port, mem);
     let s = x.cpu;
     let p = x.port;
-    let at = x.at;
-    let i = Instruction::from_entry(x.entry, x.byte);
+    let got = x.value;
+    let i = got.instruction;
+    let at = got.at;
     exec_instruction(s, p, i, at, mem)
 }
 
 // 4 to 7.
-fn awake(
-    cpu: Cpu,
-    port: Port,
-    table: &[u32; 256],
-    prefixed: &[u32; 256],
-    mem: &mut [u8],
-) -> Executed
-    requires { Given mem.old (Tables table.now prefixed.now) }
-    ensures { Runs awake cpu port mem.old result.outcome result.cpu result.port mem.new }
+fn awake(cpu: Cpu, port: Port, mem: &mut Memory) -> Left<Outcome>
+    ensures { Runs awake cpu port mem.old result.value result.cpu result.port mem.new }
 {
     let called = is_interrupted(cpu.ime, mem);
     if called {
         dispatch(cpu, port, mem)
     } else {
-        run_one(cpu, port, table, prefixed, mem)
+        run_one(cpu, port, mem)
     }
 }
 
 // 3 to 7: neither stopped nor in a transfer.
-fn running(
-    cpu: Cpu,
-    port: Port,
-    table: &[u32; 256],
-    prefixed: &[u32; 256],
-    mem: &mut [u8],
-) -> Executed
-    requires { Given mem.old (Going cpu table.now prefixed.now) }
-    ensures { Runs step cpu port mem.old result.outcome result.cpu result.port mem.new }
+fn running(cpu: Cpu, port: Port, mem: &mut Memory) -> Left<Outcome>
+    requires { Going cpu }
+    ensures { Runs step cpu port mem.old result.value result.cpu result.port mem.new }
 {
     let w = wake(cpu, port, mem);
     let s = w.cpu;
     let p = w.port;
-    let halting = w.halting;
+    let halting = w.value;
     if halting {
-        Executed {
+        Left {
             cpu: s,
             port: p,
-            outcome: Outcome::Halting,
+            value: Outcome::Halting,
         }
     } else {
-        awake(s, p, table, prefixed, mem)
+        awake(s, p, mem)
     }
 }
 
 // 1 to 7.
-pub fn next_instruction(
-    cpu: Cpu,
-    port: Port,
-    table: &[u32; 256],
-    prefixed: &[u32; 256],
-    mem: &mut [u8],
-) -> Executed
-    requires { Given mem.old (Tables table.now prefixed.now) }
-    ensures { Runs step cpu port mem.old result.outcome result.cpu result.port mem.new }
+pub fn next_instruction(cpu: Cpu, port: Port, mem: &mut Memory) -> Left<Outcome>
+    ensures { Runs step cpu port mem.old result.value result.cpu result.port mem.new }
 {
     let stopped = cpu.stopped;
     if stopped {
         let p = bus::idle(port, mem);
-        return Executed {
+        return Left {
             cpu: cpu,
             port: p,
-            outcome: Outcome::Stopped,
+            value: Outcome::Stopped,
         };
     }
     let hdma = cpu.hdma;
     if hdma {
         let p = bus::idle(port, mem);
-        return Executed {
+        return Left {
             cpu: cpu,
             port: p,
-            outcome: Outcome::RunningHDMA,
+            value: Outcome::RunningHDMA,
         };
     }
-    running(cpu, port, table, prefixed, mem)
+    running(cpu, port, mem)
 }

@@ -4,7 +4,6 @@ use mathlib.Core.List.{List}
 use Prim.Native.Nat.{ℕ, ◌%◌, ◌<◌}
 use native.Mathlib.Omega.{arith}
 use lib.Dec.{T, ltb, ltb→lt}
-use lib.ListN.{length}
 use Rattle.sm83.specs.declared.Cpu.{Cpu}
 use Rattle.instruction.specs.declared.Opcode.{Opcode}
 use Rattle.definition.specs.Bus.{Ask}
@@ -13,15 +12,14 @@ use Rattle.definition.specs.Execution.{Does, give}
 use Rattle.bus.specs.declared.Port.{Port}
 use Rattle.bus.specs.World.{world, leads}
 use Rattle.bus.specs.Leads.{Reaches}
-use Rattle.execution.specs.declared.Worked.{Worked}
-use Rattle.execution.specs.Mirror.{Made}
-use Rattle.execution.specs.Worked.{made_by}
+use Rattle.bus.specs.declared.Left.{Left}
+use Rattle.execution.specs.declared.Made.{Made}
 
 -- What is matched is o, the arm answers w, and for o that is what P says.
-pub computes : (P : Opcode → Does Ended Made) (o : Opcode) {s : Cpu} {port : Port} {m : List ℕ} {code : Opcode} {r w : Worked} → length m ≡ 65536 → code ≡ o → r ≡ w → ((k : Made → Cpu → Ask Ended) → leads (P o s k) (world port m) ≡ leads (k (made_by w) w.cpu) (world w.port m)) → Reaches (P code) s port m (give (made_by r)) r.cpu r.port m
-computes P o {s = s} {port = port} {m = m} {code = code} {w = w} long e e' same =
-    subst⁻¹ (λ (z : Worked). Reaches (P code) s port m (give (made_by z)) z.cpu z.port m) e'
-    (subst⁻¹ (λ (x : Opcode). Reaches (P x) s port m (give (made_by w)) w.cpu w.port m) e (record { there = same; whole = long }))
+pub computes : (P : Opcode → Does Ended Made) (o : Opcode) {s : Cpu} {port : Port} {m : List ℕ} {code : Opcode} {r w : Left Made} → code ≡ o → r ≡ w → ((k : Made → Cpu → Ask Ended) → leads (P o s k) (world port m) ≡ leads (k w.value w.cpu) (world w.port m)) → Reaches (P code) s port m (give r.value) r.cpu r.port m
+computes P o {s = s} {port = port} {m = m} {code = code} {w = w} e e' same =
+    subst⁻¹ (λ (z : Left Made). Reaches (P code) s port m (give z.value) z.cpu z.port m) e'
+    (subst⁻¹ (λ (x : Opcode). Reaches (P x) s port m (give w.value) w.cpu w.port m) e (record { there = same }))
 
 -- the bit that an opcode names is one of eight
 pub below_eight : (n : ℕ) → T (ltb n 8) → n % 8 ≡ n

@@ -9,7 +9,8 @@ use Rattle.instruction.specs.declared.Instruction.{Instruction}
 use Rattle.bus.specs.declared.Port.{Port}
 use Rattle.bus.specs.Leads.{Leads}
 use Rattle.operands.specs.Operands.{read_operand, write_operand}
-use Rattle.execution.specs.Mirror.{Made, compute, exec_row}
+use Rattle.execution.specs.Mirror.{compute, exec_row}
+use Rattle.execution.specs.declared.Made.{Made}
 use Rattle.instruction.specs.Operand.{readable, writable}
 use Rattle.execution.specs.Runnable.{executable, runnable}
 use Rattle.opcodes.proofs.Tested.{and_left, and_right}

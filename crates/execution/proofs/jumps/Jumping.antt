@@ -13,11 +13,12 @@ use Rattle.definition.specs.Execution.{Does, ◌>>◌, nothing, change, go_to, i
 use Rattle.instruction.specs.declared.Condition.{Condition}
 use Rattle.bus.specs.declared.Port.{Port}
 use Rattle.bus.specs.World.{world, leads, Idles}
-use Rattle.execution.specs.declared.Worked.{Worked}
+use Rattle.bus.specs.declared.Left.{Left}
 use Rattle.bus.specs.Leads.{Leads}
 use Rattle.instruction.specs.Holding.{check_cond, is_unconditional}
-use Rattle.execution.specs.Mirror.{Made, made, jump_made, only_if_made, call_made, ret_made, ret_if_made}
-use Rattle.execution.specs.Worked.{made_by, worked}
+use Rattle.execution.specs.Mirror.{made, jump_made, only_if_made, call_made, ret_made, ret_if_made}
+use Rattle.execution.specs.declared.Made.{Made}
+use Rattle.execution.specs.Worked.{worked}
 use Rattle.bus.proofs.Leading.{after, along}
 use Rattle.execution.proofs.results.Ending.{ending}
 use Rattle.bus.proofs.Parts.{idled}
@@ -28,26 +29,26 @@ module _ (s : Cpu) (port : Port) (m : List ℕ) (c : Condition) (P : Does Ended 
   unfolding only_if_made
   held t port' m' a e1 e2 l k = ap (λ (b : Bool). leads ((if b then P else made 0) s k) (world port m)) (sym e1 ∙ e2) ∙ l k
 
-  pub not_held : (r : Worked) → go ≡ check_cond c s.registers.f → go ≡ false → r ≡ worked s port 0 Normal → Leads (only_if_made c P) s port m (made_by r) r.cpu r.port m
+  pub not_held : (r : Left Made) → go ≡ check_cond c s.registers.f → go ≡ false → r ≡ worked s port 0 Normal → Leads (only_if_made c P) s port m r.value r.cpu r.port m
   unfolding only_if_made
   not_held r e1 e2 e = ending s port m m r _ (only_if_made c P) e (λ k. ap (λ (b : Bool). leads ((if b then P else made 0) s k) (world port m)) (sym e1 ∙ e2))
 
-module _ (s : Cpu) (port port' : Port) (m m' : List ℕ) (r : Worked) where
-  pub jumped : (at to : ℕ) (sure u : Bool) → Idles port m port' m' → sure ≡ u → r ≡ worked (set_pc to s) port' 0 (if sure && eqb to at then InfiniteLoop else Normal) → Leads (idle >> jump_made at u to) s port m (made_by r) r.cpu r.port m'
+module _ (s : Cpu) (port port' : Port) (m m' : List ℕ) (r : Left Made) where
+  pub jumped : (at to : ℕ) (sure u : Bool) → Idles port m port' m' → sure ≡ u → r ≡ worked (set_pc to s) port' 0 (if sure && eqb to at then InfiniteLoop else Normal) → Leads (idle >> jump_made at u to) s port m r.value r.cpu r.port m'
   unfolding jump_made
   jumped at to sure u h e3 e4 k = h.there _ ∙ simp (e4, e3)
 
-  pub jumped_by : (at by to : ℕ) (sure u : Bool) → Idles port m port' m' → sure ≡ u → to ≡ (pc s + by) % 65536 → r ≡ worked (set_pc to s) port' 0 (if sure && eqb to at then InfiniteLoop else Normal) → Leads (idle >> jump_made at u ((pc s + by) % 65536)) s port m (made_by r) r.cpu r.port m'
-  jumped_by at by to sure u h e3 e4 e5 = along s r.cpu port r.port m m' (λ (x : ℕ). idle >> jump_made at u x) to ((pc s + by) % 65536) (made_by r) e4 (jumped at to sure u h e3 e5)
+  pub jumped_by : (at by to : ℕ) (sure u : Bool) → Idles port m port' m' → sure ≡ u → to ≡ (pc s + by) % 65536 → r ≡ worked (set_pc to s) port' 0 (if sure && eqb to at then InfiniteLoop else Normal) → Leads (idle >> jump_made at u ((pc s + by) % 65536)) s port m r.value r.cpu r.port m'
+  jumped_by at by to sure u h e3 e4 e5 = along s r.cpu port r.port m m' (λ (x : ℕ). idle >> jump_made at u x) to ((pc s + by) % 65536) r.value e4 (jumped at to sure u h e3 e5)
 
   module _ (t : Cpu) (port'' : Port) (m'' : List ℕ) where
-    pub called : (u : Cpu) (to : ℕ) → Idles port m port' m' → Leads (push (pc s)) s port' m' tt t port'' m'' → u ≡ set_pc to t → r ≡ worked u port'' 0 Normal → Leads (call_made to) s port m (made_by r) r.cpu r.port m''
+    pub called : (u : Cpu) (to : ℕ) → Idles port m port' m' → Leads (push (pc s)) s port' m' tt t port'' m'' → u ≡ set_pc to t → r ≡ worked u port'' 0 Normal → Leads (call_made to) s port m r.value r.cpu r.port m''
     called u to h l e3 e4 =
         ending s port m m'' r _ (call_made to) (e4 ∙ ap (λ (x : Cpu). worked x port'' 0 Normal) e3)
         (after s s (set_pc to t) port port' port'' m m' m'' idle (λ _. push (pc s) >> (go_to to >> made 0)) tt _ (idled s port port' m m' h) (λ k. l (λ _ x. (go_to to >> made 0) x k)))
 
     -- g is what a return changes besides PC
-    pub returned : (g : Cpu → Cpu) (u : Cpu) (w : ℕ) → Leads pop s port m w t port' m' → Idles port' m' port'' m'' → u ≡ g (set_pc w t) → r ≡ worked u port'' 0 Normal → Leads (return >> (change g >> made 0)) s port m (made_by r) r.cpu r.port m''
+    pub returned : (g : Cpu → Cpu) (u : Cpu) (w : ℕ) → Leads pop s port m w t port' m' → Idles port' m' port'' m'' → u ≡ g (set_pc w t) → r ≡ worked u port'' 0 Normal → Leads (return >> (change g >> made 0)) s port m r.value r.cpu r.port m''
     returned g u w l h e3 e4 =
         ending s port m m'' r _ (return >> (change g >> made 0)) (e4 ∙ ap (λ (x : Cpu). worked x port'' 0 Normal) e3)
         (after s t (g (set_pc w t)) port port' port'' m m' m'' pop (λ x. idle >> (go_to x >> (change g >> made 0))) w _ l (λ k. idled t port' port'' m' m'' h (λ _ x. (go_to w >> (change g >> made 0)) x k)))

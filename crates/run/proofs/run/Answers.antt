@@ -7,21 +7,23 @@ use Rattle.run.proofs.Behind.{stands_behind}
 use Rattle.run.proofs.Admitted.{refused_length, refused_low_bits, run_accepted}
 use Rattle.run.proofs.run.Goals as goal
 
-pub repeat-requires : goal.repeat-requires
-repeat-requires c =
-    record { whole = c.if-whole.true; holds = c.if-clear.true }
-
 pub returns-then-clear : goal.returns-then-clear
 returns-then-clear c =
-    let accepted = run_accepted behind stands_behind _ _ _ (eq-eqb _ _ c.if-whole.true) (eq-eqb _ _ c.if-clear.true) in
-    c.repeat.ensures ∙ accepted
+    let args = c.args in
+    let whole = c.in-Some.ensures.cases in
+    let accepted = run_accepted behind stands_behind args.budget args.cpu args.mem.now (eq-eqb _ _ whole.long) (eq-eqb _ _ c.if-clear.true) in
+    let steps = rw whole.same at c.repeat.ensures in
+    steps ∙ accepted
 
 pub returns-else-clear : goal.returns-else-clear
 returns-else-clear c =
-    let refused = refused_low_bits behind stands_behind _ _ _ (eq-eqb _ _ c.if-whole.true) (ne_eqb _ _ c.if-clear.false) in
-    c.refused.ensures ∙ refused
+    let args = c.args in
+    let whole = c.in-Some.ensures.cases in
+    let refused = refused_low_bits behind stands_behind args.budget args.cpu args.mem.now (eq-eqb _ _ whole.long) (ne_eqb _ _ c.if-clear.false) in
+    let left = rw whole.same at c.refused.ensures in
+    left ∙ refused
 
-pub returns-else-whole : goal.returns-else-whole
-returns-else-whole c =
-    let wrong_length = refused_length behind stands_behind _ _ _ (ne_eqb _ _ c.if-whole.false) in
-    c.refused-else-whole.ensures ∙ wrong_length
+pub returns-in-None : goal.returns-in-None
+returns-in-None c =
+    let wrong_length = refused_length behind stands_behind _ _ _ (ne_eqb _ _ c.in-None.ensures.cases) in
+    c.refused-in-None.ensures ∙ wrong_length

@@ -6,10 +6,10 @@ pub returns-then-called : goal.returns-then-called
 returns-then-called c =
     let called = c.is_interrupted-called.ensures in
     let dispatch = c.dispatch.ensures in
-    record { there = awake_dispatches _ _ _ _ _ _ _ _ _ called c.if-called.true dispatch.there; whole = dispatch.whole }
+    record { there = awake_dispatches _ _ _ _ _ _ _ _ _ called c.if-called.true dispatch.there }
 
 pub returns-else-called : goal.returns-else-called
 returns-else-called c =
     let called = c.is_interrupted-called.ensures in
     let run = c.run_one.ensures in
-    record { there = awake_runs _ _ _ _ _ _ _ _ _ called c.if-called.false run.there; whole = run.whole }
+    record { there = awake_runs _ _ _ _ _ _ _ _ _ called c.if-called.false run.there }

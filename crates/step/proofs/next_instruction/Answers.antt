@@ -6,19 +6,18 @@ pub returns-then-stopped : goal.returns-then-stopped
 returns-then-stopped c =
     let stopped = c.if-stopped.true in
     let idle = c.idle-p.ensures in
-    record { there = stops _ _ _ _ _ stopped idle; whole = idle.whole }
+    record { there = stops _ _ _ _ _ stopped idle }
 
 pub returns-then-hdma : goal.returns-then-hdma
 returns-then-hdma c =
     let not_stopped = c.if-stopped.false in
     let transfer = c.if-hdma.true in
     let idle = c.idle-p-then-hdma.ensures in
-    record { there = transfers _ _ _ not_stopped _ _ transfer idle; whole = idle.whole }
+    record { there = transfers _ _ _ not_stopped _ _ transfer idle }
 
 pub running-requires : goal.running-requires
 running-requires c =
-    let pre = c.requires in
-    record { whole = pre.whole; holds = record { tables = pre.holds; not_stopped = c.if-stopped.false; no_transfer = c.if-hdma.false } }
+    record { not_stopped = c.if-stopped.false; no_transfer = c.if-hdma.false }
 
 pub returns : goal.returns
 returns c = c.running.ensures

@@ -9,4 +9,4 @@ returns c =
     let low = c.fetch_next_pc-x.ensures in
     let high = c.fetch_next_pc-y.ensures in
     let word = c.pair.ensures in
-    record { there = two_bytes _ _ _ _ _ _ _ _ _ _ _ _ low.there high.there word; whole = high.whole }
+    record { there = two_bytes _ _ _ _ _ _ _ _ _ _ _ _ low.there high.there word }

@@ -6,4 +6,4 @@ pub returns : goal.returns
 returns c =
     let read = c.read-got.ensures in
     let past = c.wrapping_add-after.ensures in
-    record { there = byte_at_pc_lem _ _ _ _ _ _ _ _ read past; whole = read.whole }
+    record { there = byte_at_pc_lem _ _ _ _ _ _ _ _ read past }

@@ -5,4 +5,4 @@ use Rattle.bus.proofs.interrupts.lowest_pending.Goals as goal
 
 pub returns : goal.returns
 unfolding pending
-returns c = record { seen = search rules; same = search rules; whole = search rules }
+returns c = record { seen = search rules; same = search rules }

@@ -6,4 +6,4 @@ pub returns : goal.returns
 returns c =
     let push = c.write-p.ensures in
     let take = c.take_next_interrupt-next.ensures in
-    has_taken _ _ _ _ _ _ _ _ push take.seen take.left take.whole
+    has_taken _ _ _ _ _ _ _ _ push take.seen take.left

@@ -6,12 +6,10 @@ pub returns-then-go : goal.returns-then-go
 returns-then-go c =
     record {
       there = held _ _ _ _ _ _ _ _ _ _ c.check_cond-go.ensures c.if-go.true (jumped_by _ _ _ _ _ _ _ _ _ _ _ c.idle-p.ensures c.is_unconditional.ensures c.wrapping_add-to.ensures c.jump.ensures);
-      whole = c.idle-p.ensures.whole;
     }
 
 pub returns-else-go : goal.returns-else-go
 returns-else-go c =
     record {
       there = not_held _ _ _ _ _ _ _ c.check_cond-go.ensures c.if-go.false c.normal.ensures;
-      whole = c.requires;
     }

@@ -6,5 +6,4 @@ pub returns : goal.returns
 returns c =
     record {
       there = hl_added _ _ _ _ _ _ _ _ _ c.idle-p.ensures c.reg_hl_read.ensures c.add16-x.ensures c.with_flags.ensures;
-      whole = c.idle-p.ensures.whole;
     }

@@ -6,5 +6,4 @@ pub returns : goal.returns
 returns c =
     record {
       there = offset_added _ _ _ _ _ _ _ _ _ c.idle-p.ensures c.idle-q.ensures c.add_offset.ensures;
-      whole = c.idle-q.ensures.whole;
     }

@@ -6,5 +6,4 @@ pub returns : goal.returns
 returns c =
     record {
       there = loaded_sp _ _ _ _ _ _ _ _ c.idle-p.ensures c.reg_hl_read.ensures c.with_registers.ensures c.normal.ensures;
-      whole = c.idle-p.ensures.whole;
     }

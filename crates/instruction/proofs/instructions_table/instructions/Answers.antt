@@ -2,9 +2,9 @@
 use mathlib.Core.Path.{refl}
 use Rattle.opcodes.specs.Instruction.{decode}
 use Rattle.opcodes.proofs.Tested.{agree}
-use Rattle.instruction.specs.Entry.{row_at, Unprefixed}
+use Rattle.instruction.specs.Entry.{Unprefixed}
 use Rattle.instruction.proofs.instructions_table.instructions.Goals as goal
 
 pub returns : goal.returns
-unfolding Unprefixed row_at decode
+unfolding Unprefixed decode
 returns c = agree _ _ 256 refl

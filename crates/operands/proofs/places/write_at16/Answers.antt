@@ -8,4 +8,4 @@ use Rattle.operands.proofs.places.write_at16.Goals as goal
 pub returns : goal.returns
 unfolding write_operand
 returns c =
-    record { there = after _ _ _ _ _ _ _ _ _ imm16 (λ a. store Operand a _) _ _ c.fetch16-x.ensures.there c.store.ensures.there; whole = c.store.ensures.whole }
+    record { there = after _ _ _ _ _ _ _ _ _ imm16 (λ a. store Operand a _) _ _ c.fetch16-x.ensures.there c.store.ensures.there }

@@ -10,5 +10,4 @@ unfolding imm8 write_operand
 returns c =
     record {
       there = after _ _ _ _ _ _ _ _ _ imm8 (λ n. store Operand (high n) _) _ _ c.fetch_next_pc-x.ensures.there (stored _ _ _ _ _ _ _ _ _ c.high.ensures c.store.ensures.there);
-      whole = c.store.ensures.whole;
     }

@@ -8,5 +8,4 @@ unfolding write_operand
 returns c =
     record {
       there = word_at_pc _ _ _ _ _ _ _ _ _ _ _ _ _ _ c.fetch16-x.ensures.there c.write-q.ensures c.wrapping_add.ensures c.store.ensures.there;
-      whole = c.store.ensures.whole;
     }

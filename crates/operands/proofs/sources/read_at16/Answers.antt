@@ -8,4 +8,4 @@ use Rattle.operands.proofs.sources.read_at16.Goals as goal
 pub returns : goal.returns
 unfolding read_operand
 returns c =
-    record { there = after _ _ _ _ _ _ _ _ _ imm16 (load Operand) _ _ c.fetch16-x.ensures.there c.load.ensures.there; whole = c.load.ensures.whole }
+    record { there = after _ _ _ _ _ _ _ _ _ imm16 (load Operand) _ _ c.fetch16-x.ensures.there c.load.ensures.there }

@@ -10,5 +10,4 @@ unfolding imm8 read_operand
 returns c =
     record {
       there = after _ _ _ _ _ _ _ _ _ imm8 (λ n. load Operand (high n)) _ _ c.fetch_next_pc-x.ensures.there (along _ _ _ _ _ _ (load Operand) _ _ _ c.high.ensures c.load.ensures.there);
-      whole = c.load.ensures.whole;
     }

@@ -1,40 +1,42 @@
 -- Shows each operand: one law, and what the arm's own callee answers.
 use mathlib.Core.Path.{refl}
+use Rattle.sm83.specs.Basics.{next, back}
 use Rattle.definition.specs.Bus.{Operand}
 use Rattle.definition.specs.Execution.{load, give}
 use Rattle.instruction.specs.declared.OperandType.TheVariants as ot
-use Rattle.operands.specs.Operands.{read_operand}
+use Rattle.operands.specs.Operands.{read_operand, read_moving}
 use Rattle.bus.proofs.Leading.{arm, renamed}
 use Rattle.operands.proofs.Kept.{here}
+use Rattle.operands.proofs.Moving.{moved}
 use Rattle.operands.proofs.sources.read_operand.Goals as goal
 
 pub returns-in-RegA : goal.returns-in-RegA
 unfolding read_operand
-returns-in-RegA c = arm read_operand ot.RegA c.in-RegA.is (here c.requires.whole c.held.ensures) (λ k. refl)
+returns-in-RegA c = arm read_operand ot.RegA c.in-RegA.is (here c.held.ensures) (λ k. refl)
 
 pub returns-in-RegB : goal.returns-in-RegB
 unfolding read_operand
-returns-in-RegB c = arm read_operand ot.RegB c.in-RegB.is (here c.requires.whole c.held-in-RegB.ensures) (λ k. refl)
+returns-in-RegB c = arm read_operand ot.RegB c.in-RegB.is (here c.held-in-RegB.ensures) (λ k. refl)
 
 pub returns-in-RegC : goal.returns-in-RegC
 unfolding read_operand
-returns-in-RegC c = arm read_operand ot.RegC c.in-RegC.is (here c.requires.whole c.held-in-RegC.ensures) (λ k. refl)
+returns-in-RegC c = arm read_operand ot.RegC c.in-RegC.is (here c.held-in-RegC.ensures) (λ k. refl)
 
 pub returns-in-RegD : goal.returns-in-RegD
 unfolding read_operand
-returns-in-RegD c = arm read_operand ot.RegD c.in-RegD.is (here c.requires.whole c.held-in-RegD.ensures) (λ k. refl)
+returns-in-RegD c = arm read_operand ot.RegD c.in-RegD.is (here c.held-in-RegD.ensures) (λ k. refl)
 
 pub returns-in-RegE : goal.returns-in-RegE
 unfolding read_operand
-returns-in-RegE c = arm read_operand ot.RegE c.in-RegE.is (here c.requires.whole c.held-in-RegE.ensures) (λ k. refl)
+returns-in-RegE c = arm read_operand ot.RegE c.in-RegE.is (here c.held-in-RegE.ensures) (λ k. refl)
 
 pub returns-in-RegH : goal.returns-in-RegH
 unfolding read_operand
-returns-in-RegH c = arm read_operand ot.RegH c.in-RegH.is (here c.requires.whole c.held-in-RegH.ensures) (λ k. refl)
+returns-in-RegH c = arm read_operand ot.RegH c.in-RegH.is (here c.held-in-RegH.ensures) (λ k. refl)
 
 pub returns-in-RegL : goal.returns-in-RegL
 unfolding read_operand
-returns-in-RegL c = arm read_operand ot.RegL c.in-RegL.is (here c.requires.whole c.held-in-RegL.ensures) (λ k. refl)
+returns-in-RegL c = arm read_operand ot.RegL c.in-RegL.is (here c.held-in-RegL.ensures) (λ k. refl)
 
 pub returns-in-AddrHL : goal.returns-in-AddrHL
 unfolding read_operand
@@ -42,11 +44,11 @@ returns-in-AddrHL c = arm read_operand ot.AddrHL c.in-AddrHL.is (renamed (load O
 
 pub returns-in-AddrHLDec : goal.returns-in-AddrHLDec
 unfolding read_operand
-returns-in-AddrHLDec c = arm read_operand ot.AddrHLDec c.in-AddrHLDec.is c.read_hl_dec.ensures (λ k. refl)
+returns-in-AddrHLDec c = arm read_operand ot.AddrHLDec c.in-AddrHLDec.is (moved read_moving back c.reg_hl_read.ensures c.wrapping_sub.ensures c.read_moving.ensures) (λ k. refl)
 
 pub returns-in-AddrHLInc : goal.returns-in-AddrHLInc
 unfolding read_operand
-returns-in-AddrHLInc c = arm read_operand ot.AddrHLInc c.in-AddrHLInc.is c.read_hl_inc.ensures (λ k. refl)
+returns-in-AddrHLInc c = arm read_operand ot.AddrHLInc c.in-AddrHLInc.is (moved read_moving next c.reg_hl_read.ensures c.wrapping_add.ensures c.read_moving-in-AddrHLInc.ensures) (λ k. refl)
 
 pub returns-in-AddrBC : goal.returns-in-AddrBC
 unfolding read_operand
@@ -58,23 +60,23 @@ returns-in-AddrDE c = arm read_operand ot.AddrDE c.in-AddrDE.is (renamed (load O
 
 pub returns-in-RegAF : goal.returns-in-RegAF
 unfolding read_operand
-returns-in-RegAF c = arm read_operand ot.RegAF c.in-RegAF.is (renamed give c.reg_af_read.ensures (here c.requires.whole c.held-in-RegAF.ensures)) (λ k. refl)
+returns-in-RegAF c = arm read_operand ot.RegAF c.in-RegAF.is (renamed give c.reg_af_read.ensures (here c.held-in-RegAF.ensures)) (λ k. refl)
 
 pub returns-in-RegBC : goal.returns-in-RegBC
 unfolding read_operand
-returns-in-RegBC c = arm read_operand ot.RegBC c.in-RegBC.is (renamed give c.reg_bc_read-in-RegBC.ensures (here c.requires.whole c.held-in-RegBC.ensures)) (λ k. refl)
+returns-in-RegBC c = arm read_operand ot.RegBC c.in-RegBC.is (renamed give c.reg_bc_read-in-RegBC.ensures (here c.held-in-RegBC.ensures)) (λ k. refl)
 
 pub returns-in-RegDE : goal.returns-in-RegDE
 unfolding read_operand
-returns-in-RegDE c = arm read_operand ot.RegDE c.in-RegDE.is (renamed give c.reg_de_read-in-RegDE.ensures (here c.requires.whole c.held-in-RegDE.ensures)) (λ k. refl)
+returns-in-RegDE c = arm read_operand ot.RegDE c.in-RegDE.is (renamed give c.reg_de_read-in-RegDE.ensures (here c.held-in-RegDE.ensures)) (λ k. refl)
 
 pub returns-in-RegHL : goal.returns-in-RegHL
 unfolding read_operand
-returns-in-RegHL c = arm read_operand ot.RegHL c.in-RegHL.is (renamed give c.reg_hl_read-in-RegHL.ensures (here c.requires.whole c.held-in-RegHL.ensures)) (λ k. refl)
+returns-in-RegHL c = arm read_operand ot.RegHL c.in-RegHL.is (renamed give c.reg_hl_read-in-RegHL.ensures (here c.held-in-RegHL.ensures)) (λ k. refl)
 
 pub returns-in-RegSP : goal.returns-in-RegSP
 unfolding read_operand
-returns-in-RegSP c = arm read_operand ot.RegSP c.in-RegSP.is (here c.requires.whole c.held-in-RegSP.ensures) (λ k. refl)
+returns-in-RegSP c = arm read_operand ot.RegSP c.in-RegSP.is (here c.held-in-RegSP.ensures) (λ k. refl)
 
 pub returns-in-Imm8 : goal.returns-in-Imm8
 unfolding read_operand
@@ -102,4 +104,4 @@ returns-in-Addr16 c = arm read_operand ot.Addr16 c.in-Addr16.is c.read_at16.ensu
 
 pub returns-in-Implied : goal.returns-in-Implied
 unfolding read_operand
-returns-in-Implied c = arm read_operand ot.Implied c.in-Implied.is (here c.requires.whole c.held-in-Implied.ensures) (λ k. refl)
+returns-in-Implied c = arm read_operand ot.Implied c.in-Implied.is (here c.held-in-Implied.ensures) (λ k. refl)

@@ -8,4 +8,4 @@ use Rattle.operands.proofs.sources.read_signed.Goals as goal
 pub returns : goal.returns
 unfolding imm8 read_operand
 returns c =
-    record { there = after _ _ _ _ _ _ _ _ _ imm8 (λ e. give (signed e)) _ _ c.fetch_next_pc-x.ensures.there (giving _ _ _ _ _ c.sign_extended.ensures); whole = c.fetch_next_pc-x.ensures.whole }
+    record { there = after _ _ _ _ _ _ _ _ _ imm8 (λ e. give (signed e)) _ _ c.fetch_next_pc-x.ensures.there (giving _ _ _ _ _ c.sign_extended.ensures) }

@@ -6,5 +6,4 @@ pub returns : goal.returns
 returns c =
     record {
       there = popped _ _ _ _ _ _ _ _ _ _ _ _ _ c.read-low.ensures c.wrapping_add-second.ensures c.read-high.ensures c.wrapping_add-after.ensures c.pair.ensures c.with_registers-s.ensures;
-      whole = c.read-high.ensures.whole;
     }

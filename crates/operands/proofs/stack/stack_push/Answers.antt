@@ -6,5 +6,4 @@ pub returns : goal.returns
 returns c =
     record {
       there = pushed _ _ _ _ _ _ _ _ _ _ _ c.wrapping_sub-first.ensures c.wrapping_sub-second.ensures c.write-p.ensures c.write-q.ensures c.with_registers-s.ensures;
-      whole = c.write-q.ensures.whole;
     }

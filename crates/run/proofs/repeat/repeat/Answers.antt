@@ -1,7 +1,8 @@
--- Shows the loop: its invariant is that what is done so far and what is left make the run, its measure the steps left.
+-- Shows the loop: its invariant is that what is done so far and what is left make the run.
 use mathlib.Core.Path.{◌≡◌, refl, sym, subst⁻¹, ◌∙◌}
 use mathlib.Core.List.{List}
 use Prim.Native.Nat.{ℕ}
+use Rattle.std.proofs.Common.{rules}
 use native.Mathlib.Omega.{arith}
 use Rattle.sm83.specs.declared.Cpu.{Cpu}
 use Rattle.outcome.specs.declared.Outcome.{Outcome}
@@ -20,24 +21,12 @@ moved s t s' p p' m m' o e l = subst⁻¹ (λ (z : Cpu). Leads step s p m o z p'
 
 pub loop-n-init : goal.loop-n-init
 loop-n-init c =
-    starts behind stands_behind _ _ _ _ refl c.requires.whole (omega (arith, c.well_formed, c.requires.holds), λ i. omega (arith, c.slice_known-1.given i))
-
-pub next_instruction-x-requires : goal.next_instruction-x-requires
-next_instruction-x-requires c =
-    record { whole = c.loop-n.invariant.long; holds = record { unprefixed = c.instructions-table.ensures; prefixed = c.prefixed_instructions-prefixed.ensures } }
-
-pub overflow_add-n : goal.overflow_add-n
-overflow_add-n c =
-    omega (arith, c.loop-n-test.true, c.ranges.budget)
+    starts behind stands_behind _ _ _ _ refl (search rules) (omega (arith, c.well_formed, c.requires), c.fits-mem)
 
 pub returns-then-stop : goal.returns-then-stop
 returns-then-stop c =
     stops_early behind stands_behind _ _ _ _ _ _ _ _ c.loop-n.invariant _ _ _ _ (omega (arith, c.ranges.budget)) c.loop-n-test.true (moved _ _ _ _ _ _ _ _ c.fresh-s.ensures c.next_instruction-x.ensures.there)
     (sym c.stops_run-stop.ensures ∙ c.if-stop.true)
-
-pub loop-n-smaller : goal.loop-n-smaller
-loop-n-smaller c =
-    omega (arith, c.loop-n-test.true)
 
 pub loop-n-preserved : goal.loop-n-preserved
 loop-n-preserved c =

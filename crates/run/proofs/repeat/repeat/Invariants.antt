@@ -1,11 +1,7 @@
--- Shows the loop: its invariant is that what is done so far and what is left make the run, its measure the steps left.
-use Prim.Native.Nat.{◌-◌}
+-- Shows the loop: its invariant is that what is done so far and what is left make the run.
 use Rattle.bus.specs.World.{behind}
 use Rattle.run.proofs.Repeating.{Going}
 use Rattle.run.proofs.repeat.repeat.Given as goal
 
 abbrev pub invariant-loop-n : goal.invariant-loop-n
 invariant-loop-n l = Going behind l.budget l.initial.s l.initial.mem l.s l.mem l.p l.last l.n
-
-abbrev pub decreases-loop-n : goal.decreases-loop-n
-decreases-loop-n l = l.budget - l.n
