@@ -1,59 +1,60 @@
--- The picture of a window: 0 not reached, 1 an instruction's start, 2 an operand byte, 3 a jump's start, 4 the refused byte.
-use Rattle.std.specs.Prelude.{true, false, ◌&&◌, List, [], ◌∷◌, ℕ, zero, suc, ◌-◌, eqb, ltb, if◌then◌else◌}
+-- The picture of a window: of each byte, whether it is not reached, an instruction's start, an operand byte, a jump's start, or the refused byte.
+use Rattle.std.specs.Prelude.{false, List, [], ◌∷◌, ℕ, zero, suc, eqb, ltb, if◌then◌else◌, Option, Some, None, Ok, Err}
 use Rattle.sm83.specs.declared.Addr.{Addr}
-use Rattle.routine.specs.declared.Verdict.{Verdict}
-use Rattle.routine.specs.declared.Verdict.TheVariants.{Passes, Refused, RefusedAt}
+use Rattle.routine.specs.Verdict.{Verdict}
+use Rattle.routine.specs.declared.Finding.TheVariants.{BeforeWalk, At}
 use Rattle.sm83.specs.Basics.{next}
 use Rattle.definition.specs.Bus.{byte_at}
-use Rattle.sm83.specs.State.{addr}
 use Rattle.routine.specs.Numbers.{number_of}
-use Rattle.opcodes.specs.Instruction.{decode, operands}
 use Rattle.map.specs.Opcode.{is_jump}
+use Rattle.map.specs.Walk.{left_after}
+use Rattle.map.specs.declared.walk.Walk.{Walk}
+use Rattle.map.specs.declared.kinds.Kind.{Kind}
+use Rattle.map.specs.declared.kinds.Kind.TheVariants as kind
 use Rattle.map.specs.declared.kinds.Stop.{Stop}
 use Rattle.map.specs.declared.kinds.Cell.{Cell}
 
-abbrev pub nowhere : Stop
-nowhere = record { found = false; at = addr 0; ends = false }
-
 -- 7 and 8 end the walk, 9 and 10 are found after it
 abbrev pub stop_at : Addr → ℕ → Stop
-stop_at a number = record { found = true; at = a; ends = ltb number 9 }
+stop_at a number = record { at = a; ends = ltb number 9 }
 
-abbrev pub stop_of : Verdict → Stop
-stop_of Passes = nowhere
-stop_of (Refused r) = nowhere
-stop_of (RefusedAt r a) = stop_at a (number_of r)
+abbrev pub stop_of : Verdict → Option Stop
+stop_of (Ok done) = None
+stop_of (Err (BeforeWalk r)) = None
+stop_of (Err (At r a)) = Some (stop_at a (number_of r))
 
-abbrev pub cell : ℕ → ℕ → Cell
-cell kind left = record { kind = kind; left = left; ended = false }
+abbrev pub cell : Kind → ℕ → Cell
+cell kind left = record { kind = kind; walk = record { left = left }; ended = false }
 
-abbrev pub start_kind : ℕ → ℕ
-start_kind b = if is_jump b then 3 else 1
+abbrev pub start_kind : ℕ → Kind
+start_kind b = if is_jump b then kind.Jump else kind.Start
 
--- a byte of the walk, `left` bytes of the instruction before it being still to come
-unfoldable pub cell_of : ℕ → ℕ → Cell
-cell_of left b =
-    if ltb 0 left then cell 2 (left - 1) else cell (start_kind b) (operands (decode b))
+-- a byte of the walk
+unfoldable pub cell_of : Walk → ℕ → Cell
+cell_of walk b = cell (if eqb walk.left 0 then start_kind b else kind.Operand) (left_after walk.left b)
 
 abbrev pub refused : Stop → Cell → Cell
-refused stop c = record { kind = 4; left = c.left; ended = stop.ends }
+refused stop c = record { kind = kind.Refused; walk = c.walk; ended = stop.ends }
 
-abbrev pub unreached : Cell
-unreached = record { kind = 0; left = 0; ended = true }
+abbrev pub unreached : Cell → Cell
+unreached before = record { kind = kind.NotReached; walk = before.walk; ended = before.ended }
+
+-- at the refused byte, if that is here
+abbrev pub stopped : Option Stop → ℕ → Cell → Cell
+stopped None a c = c
+stopped (Some stop) a c = if eqb a stop.at.0 then refused stop c else c
 
 -- the byte b at an address, after the byte before it
-unfoldable pub cell_at : Stop → Cell → ℕ → ℕ → Cell
-cell_at stop before a b =
-    if before.ended then unreached else
-    (if stop.found && eqb a stop.at.0 then refused stop (cell_of before.left b) else cell_of before.left b)
+unfoldable pub cell_at : Option Stop → Cell → ℕ → ℕ → Cell
+cell_at stop before a b = if before.ended then unreached before else stopped stop a (cell_of before.walk b)
 
 -- of n bytes, from an address on; addresses wrap
-unfoldable pub kinds_from : List ℕ → Stop → Cell → ℕ → ℕ → List ℕ
+unfoldable pub kinds_from : List ℕ → Option Stop → Cell → ℕ → ℕ → List Kind
 kinds_from m stop before a zero = []
 kinds_from m stop before a (suc n) =
     let c : Cell = cell_at stop before a (byte_at m a) in
     c.kind ∷ kinds_from m stop c (next a) n
 
 -- of a window of n bytes, with what the screen says of it
-unfoldable pub kinds_of : List ℕ → ℕ → Verdict → ℕ → List ℕ
-kinds_of m first verdict n = kinds_from m (stop_of verdict) (cell 0 0) first n
+unfoldable pub kinds_of : List ℕ → ℕ → Verdict → ℕ → List Kind
+kinds_of m first verdict n = kinds_from m (stop_of verdict) (cell kind.NotReached 0) first n

@@ -1,38 +1,42 @@
 -- The lanes of a picture of jumps: which two arrows share a row, and the lowest lane in which no arrow shares a row with a new one.
-use Rattle.std.specs.Prelude.{Bool, false, not, ◌&&◌, ◌||◌, List, ℕ, zero, suc, ◌-◌, ◌+◌, eqb, ltb, get_or, length, if◌then◌else◌}
+use Rattle.std.specs.Prelude.{Bool, false, not, ◌&&◌, ◌||◌, List, ℕ, zero, suc, ◌-◌, ◌+◌, eqb, ltb, if◌then◌else◌, Option, Some, None, slice_index_or}
+use Rattle.std.specs.List.{list_any}
+use Rattle.map.specs.declared.lanes.Rows.{Rows}
+use Rattle.map.specs.declared.lanes.Arrow.{Arrow}
+use Rattle.map.specs.declared.lanes.Lane.{Lane}
+use Rattle.map.specs.declared.lanes.Lane.TheVariants as lane
 
-abbrev pub span_of : ℕ → ℕ → ℕ
-span_of from to = (to - from) + (from - to)
+abbrev pub span_of : Rows → ℕ
+span_of r = (r.to - r.from) + (r.from - r.to)
 
--- one arrow, from a to b, is above another, from c to d
-abbrev pub above : ℕ → ℕ → ℕ → ℕ → Bool
-above a b c d = ((ltb a c && ltb a d) && ltb b c) && ltb b d
+-- all of one arrow is above another
+abbrev pub above : Rows → Rows → Bool
+above r s = ((ltb r.from s.from && ltb r.from s.to) && ltb r.to s.from) && ltb r.to s.to
 
-abbrev pub below : ℕ → ℕ → ℕ → ℕ → Bool
-below a b c d = ((ltb c a && ltb c b) && ltb d a) && ltb d b
+abbrev pub crosses : Rows → Rows → Bool
+crosses r s = not (above r s || above s r)
 
-abbrev pub crosses : ℕ → ℕ → ℕ → ℕ → Bool
-crosses a b c d = not (above a b c d || below a b c d)
+-- past the end each number is 0
+abbrev pub arrow_or : List Arrow → ℕ → Arrow
+arrow_or arrows k = slice_index_or arrows k (record { rows = record { from = 0; to = 0 }; lane = lane.In 0 })
 
-abbrev pub at : List ℕ → ℕ → ℕ
-at l k = get_or l k 0
+abbrev pub is_in : Lane → ℕ → Bool
+is_in lane.NoArrow n = false
+is_in lane.Wanted n = false
+is_in lane.Told n = false
+is_in (lane.In held) n = eqb held n
 
--- arrow k of a list is in the lane, and shares a row with a new one
-abbrev pub holds_lane : List ℕ → List ℕ → List ℕ → ℕ → ℕ → ℕ → ℕ → Bool
-holds_lane froms tos lanes from to lane k = eqb (at lanes k) lane && crosses from to (at froms k) (at tos k)
+-- an arrow is in the lane, and shares a row with a new one
+abbrev pub holds_lane : Rows → ℕ → Arrow → Bool
+holds_lane rows n arrow = is_in arrow.lane n && crosses rows arrow.rows
 
--- one of the numbers below n passes the test
-unfoldable pub some_below : (ℕ → Bool) → ℕ → Bool
-some_below p zero = false
-some_below p (suc n) = some_below p n || p n
+abbrev pub is_taken : List Arrow → Rows → ℕ → Bool
+is_taken arrows rows n = list_any (holds_lane rows n) arrows
 
-abbrev pub is_taken : List ℕ → List ℕ → List ℕ → ℕ → ℕ → ℕ → Bool
-is_taken froms tos lanes from to lane = some_below (holds_lane froms tos lanes from to lane) (length lanes)
+-- the lowest of n numbers from one on that is not taken, if one is not
+unfoldable pub lowest_free : (ℕ → Bool) → ℕ → ℕ → Option ℕ
+lowest_free taken k zero = None
+lowest_free taken k (suc n) = if taken k then lowest_free taken (suc k) n else Some k
 
--- the lowest of n numbers from one on that is not taken; the number after them if all are
-unfoldable pub lowest_free : (ℕ → Bool) → ℕ → ℕ → ℕ
-lowest_free taken lane zero = lane
-lowest_free taken lane (suc n) = if taken lane then lowest_free taken (suc lane) n else lane
-
-abbrev pub free_lane : List ℕ → List ℕ → List ℕ → ℕ → ℕ → ℕ → ℕ
-free_lane froms tos lanes from to count = lowest_free (is_taken froms tos lanes from to) 0 count
+abbrev pub free_lane : List Arrow → Rows → ℕ → Option ℕ
+free_lane arrows rows count = lowest_free (is_taken arrows rows) 0 count

@@ -5,12 +5,8 @@ use Rattle.opcodes.specs.Instruction.{operands}
 use Rattle.routine.specs.Flow.{instruction_at}
 use Rattle.map.specs.declared.place.Place.{Place}
 use Rattle.map.specs.declared.place.Place.TheVariants.{Outside, Start, Inside}
-use Rattle.map.specs.declared.place.Walk.{Walk}
 
--- As the screen walks: of the instruction that began at `start`, k bytes are still to come. The byte at an address is the next.
-abbrev pub onward : List ℕ → ℕ → ℕ → ℕ → Walk
-onward m start zero at = record { start = at; left = operands (instruction_at m at) }
-onward m start (suc k) at = record { start = start; left = k }
+-- As the screen walks: of the instruction that began at `start`, k bytes are still to come before the byte at an address.
 
 -- where the instruction starts that holds the byte n bytes after `at`
 unfoldable pub holder : List ℕ → ℕ → ℕ → ℕ → ℕ → ℕ

@@ -1,20 +1,19 @@
 -- Where a JP or a JR goes, taken or not: the jumps that refusal 10 tests; and which of them are always taken.
-use Rattle.std.specs.Prelude.{Bool, true, false, ℕ}
+use Rattle.std.specs.Prelude.{Bool, true, false, ℕ, Option, Some, None}
+use Rattle.sm83.specs.declared.Addr.{Addr}
 use Rattle.sm83.specs.State.{addr}
 use Rattle.opcodes.specs.Instruction.{decode}
 use Rattle.routine.specs.Flow.{Flow, Next, Nowhere, Leaves, LeavesOrNext, GoesTo, GoesToOrNext, Calls, CallsOrNext, class_of, flow_of}
-use Rattle.map.specs.declared.target.Target.{Target}
-use Rattle.map.specs.declared.target.Target.TheVariants as target
 
-abbrev pub target_of : Flow → Target
-target_of Next = target.Nowhere
-target_of Nowhere = target.Nowhere
-target_of Leaves = target.Nowhere
-target_of LeavesOrNext = target.Nowhere
-target_of (GoesTo t) = target.To (addr t)
-target_of (GoesToOrNext t) = target.To (addr t)
-target_of (Calls t) = target.Nowhere
-target_of (CallsOrNext t) = target.Nowhere
+abbrev pub target_of : Flow → Option Addr
+target_of Next = None
+target_of Nowhere = None
+target_of Leaves = None
+target_of LeavesOrNext = None
+target_of (GoesTo t) = Some (addr t)
+target_of (GoesToOrNext t) = Some (addr t)
+target_of (Calls t) = None
+target_of (CallsOrNext t) = None
 
 abbrev pub goes_only_there : Flow → Bool
 goes_only_there Next = false

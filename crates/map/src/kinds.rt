@@ -2,118 +2,110 @@
 ghost use Rattle.std.specs.Prelude.{◌≡◌, length};
 ghost use Rattle.map.specs.Kinds.{stop_of, start_kind, cell_of, cell_at, kinds_of};
 
-use crate::byte::byte;
-use crate::opcode::{is_jump, length_of};
-use routine::Verdict;
+use crate::opcode::is_jump;
+use crate::walk::Walk;
+use routine::Finding;
+use screen::memory::byte;
 use sm83::Addr;
 
-// The refused byte, if one is `found`, and whether the walk ends there.
+#[derive(Clone, Copy, PartialEq, Eq)]
+pub enum Kind {
+    // after the end of the walk
+    NotReached,
+    // an instruction's first byte, of no jump
+    Start,
+    Operand,
+    // a jump's first byte
+    Jump,
+    // the byte at which the screen refuses the window
+    Refused,
+}
+
+// The refused byte, and whether the walk ends there.
 #[derive(Clone, Copy)]
 pub struct Stop {
-    pub found: bool,
     pub at: Addr,
     pub ends: bool,
 }
 
-// A byte's kind, the operand bytes still to come after it, and whether the walk has ended.
+// A byte's kind, the walk behind it, and whether it has ended.
 #[derive(Clone, Copy)]
 pub struct Cell {
-    pub kind: u8,
-    pub left: u8,
+    pub kind: Kind,
+    pub walk: Walk,
     pub ended: bool,
 }
 
 // The walk ends at refusals 7 and 8; the others are found after it.
-fn stop_of(verdict: Verdict) -> Stop
+fn stop_of(verdict: Result<(), Finding>) -> Option<Stop>
     ensures { result ≡ stop_of verdict }
 {
     match verdict {
-        Verdict::RefusedAt(refusal, at) => {
-            let number = refusal.number();
-            Stop {
-                found: true,
-                at: at,
-                ends: number < 9,
-            }
-        }
-        _ => Stop {
-            found: false,
-            at: Addr(0),
-            ends: false,
-        },
+        Err(Finding::At(refusal, at)) => Some(Stop {
+            at,
+            ends: refusal.number() < 9,
+        }),
+        _ => None,
     }
 }
 
-fn start_kind(b: u8) -> u8
+fn start_kind(b: u8) -> Kind
     ensures { result ≡ start_kind b }
 {
-    let jump = is_jump(b);
-    if jump { 3 } else { 1 }
+    if is_jump(b) { Kind::Jump } else { Kind::Start }
 }
 
-// The next byte of a walk by instruction length, `left` operand bytes being still to come.
-fn cell_of(left: u8, b: u8) -> Cell
-    ensures { result ≡ cell_of left b }
+// The next byte of a walk by instruction length.
+#[tactic(auto, unfolding(crate::specs::Kinds::cell_of))]
+fn cell_of(mut walk: Walk, b: u8) -> Cell
+    ensures { result ≡ cell_of walk b }
 {
-    let operand = 0 < left;
-    if operand {
-        return Cell {
-            kind: 2,
-            left: left - 1,
-            ended: false,
-        };
-    }
-    let kind = start_kind(b);
-    let length = length_of(b);
+    let start = walk.starts(b);
+    let kind = if start { start_kind(b) } else { Kind::Operand };
     Cell {
-        kind: kind,
-        left: length - 1,
+        kind,
+        walk,
         ended: false,
     }
 }
 
 // The byte b at an address, after the byte before it.
-fn cell_at(stop: Stop, before: Cell, at: Addr, b: u8) -> Cell
+#[tactic(auto, unfolding(crate::specs::Kinds::cell_at))]
+fn cell_at(stop: Option<Stop>, before: Cell, at: Addr, b: u8) -> Cell
     ensures { result ≡ cell_at stop before at.0 b }
 {
-    let ended = before.ended;
-    if ended {
+    if before.ended {
         return Cell {
-            kind: 0,
-            left: 0,
-            ended: true,
+            kind: Kind::NotReached,
+            ..before
         };
     }
-    let cell = cell_of(before.left, b);
-    let bad = stop.at;
-    let here = stop.found & (at.0 == bad.0);
-    if here {
-        return Cell {
-            kind: 4,
-            left: cell.left,
+    let cell = cell_of(before.walk, b);
+    match stop {
+        Some(stop) if at.0 == stop.at.0 => Cell {
+            kind: Kind::Refused,
             ended: stop.ends,
-        };
+            ..cell
+        },
+        _ => cell,
     }
-    cell
 }
 
-// 0 not reached, 1 an instruction's start, 2 an operand byte, 3 a jump's start, 4 the refused byte.
-pub fn draw(mem: &[u8], first: Addr, verdict: Verdict, kinds: &mut [u8])
+// What each byte of a window is, with what the screen says of it.
+#[tactic(auto, using(crate::proofs::kinds::Drawing::ended), unfolding(crate::specs::Kinds::kinds_of))]
+pub fn draw(mem: &[u8], first: Addr, verdict: Result<(), Finding>, kinds: &mut [Kind])
     ensures { kinds.new ≡ kinds_of mem.now first.0 verdict (length kinds.old) }
 {
     let stop = stop_of(verdict);
-    let n = kinds.len();
     let mut cell = Cell {
-        kind: 0,
-        left: 0,
+        kind: Kind::NotReached,
+        walk: Walk { left: 0 },
         ended: false,
     };
     let mut at = first;
-    let mut i = 0;
-    while i < n {
+    for kind in kinds.iter_mut() {
         cell = cell_at(stop, cell, at, byte(mem, at));
-        kinds[i] = cell.kind;
+        *kind = cell.kind;
         at = at.wrapping_add(1);
-        i += 1;
     }
 }

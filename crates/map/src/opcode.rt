@@ -5,37 +5,29 @@ ghost use Rattle.routine.specs.Flow.{flow_of};
 ghost use Rattle.map.specs.Opcode.{goes_somewhere, is_jump};
 
 use routine::Class;
-use screen::class::shape_of;
+use screen::class::{Shape, shape_of};
 
 fn jumps(class: Class) -> bool
     ensures { result ≡ goes_somewhere (flow_of class 0 0 0) }
 {
-    match class {
-        Class::Basic => false,
-        Class::Barred => false,
-        Class::Return => false,
-        Class::ReturnIf => false,
-        Class::Absolute => true,
-        Class::AbsoluteIf => true,
-        Class::Relative => true,
-        Class::RelativeIf => true,
-        Class::Call => false,
-        Class::CallIf => false,
-    }
+    matches!(
+        class,
+        Class::Absolute | Class::AbsoluteIf | Class::Relative | Class::RelativeIf
+    )
 }
 
 pub fn length_of(opcode: u8) -> u8
     ensures { result ≡ length_of (decode opcode) }
 {
-    let shape = shape_of(opcode);
-    shape.0
+    let Shape(length, _) = shape_of(opcode);
+    length
 }
 
 // JP or JR, conditional or not.
+#[tactic(auto, unfolding(crate::specs::Opcode::is_jump))]
 pub(crate) fn is_jump(b: u8) -> bool
     ensures { result ≡ is_jump b }
 {
-    let shape = shape_of(b);
-    let class = shape.1;
+    let Shape(_, class) = shape_of(b);
     jumps(class)
 }

@@ -1,4 +1,5 @@
 -- What lies between the ends of a run can be seen by calls of `run`: with a budget of no more steps than a call did, from the same state and memory, another call ends at the state before that step.
+use Rattle.std.specs.Prelude.{None}
 use Rattle.std.proofs.Common.{if◌then◌else◌}
 use mathlib.Core.Path.{◌≡◌, refl, ap, subst, subst⁻¹, ◌∙◌}
 use mathlib.Core.Bool.{Bool, true, false}
@@ -8,7 +9,6 @@ use native.Mathlib.Omega.{arith}
 use lib.Dec.{T, leb}
 use borrow.Author.Tests.{leb-true, leb-false}
 use Rattle.sm83.specs.declared.Cpu.{Cpu}
-use Rattle.outcome.specs.declared.LastOutcome.TheVariants.{NothingRun}
 use Rattle.definition.specs.Bus.{Bus, plain}
 use Rattle.definition.specs.Step.{Admission, accepted, refused_as, admission}
 use Rattle.definition.specs.Run.{stops_last, RunAnswer, repeated, run_for}
@@ -24,18 +24,18 @@ module _ {W : Type 0} (b : Bus W) (s : Cpu) (m : W) where
   stopped false x y h = absurd h
 
   -- a run that does at least i steps begins with a run of i steps, which does them all: had that stopped before, so had the longer one
-  whole_piece : (i j : ℕ) → i ≤ (repeated b NothingRun (i + j) s m).steps → (repeated b NothingRun i s m).steps ≡ i
+  whole_piece : (i j : ℕ) → i ≤ (repeated b None (i + j) s m).steps → (repeated b None i s m).steps ≡ i
   whole_piece i j reached = by (leb i r.steps) refl
     where
       r : RunAnswer W
-      r = repeated b NothingRun i s m
+      r = repeated b None i s m
 
       by : (t : Bool) → leb i r.steps ≡ t → r.steps ≡ i
-      by true e = let h : i ≤ r.steps = leb-true i r.steps e in let most : r.steps ≤ i = (repeated_repeats b NothingRun i s m).in_budget in omega arith
+      by true e = let h : i ≤ r.steps = leb-true i r.steps e in let most : r.steps ≤ i = (repeated_repeats b None i s m).in_budget in omega arith
       by false e =
           let less : r.steps < i = leb-false i r.steps e in
-          let same : repeated b NothingRun (i + j) s m ≡ r = repeated_in_two b NothingRun tt i j s m ∙ stopped (stops_last r.last) r _ ((repeated_repeats b NothingRun i s m).early less) in
-          let steps : (repeated b NothingRun (i + j) s m).steps ≡ r.steps = ap (λ (x : RunAnswer W). x.steps) same in
+          let same : repeated b None (i + j) s m ≡ r = repeated_in_two b None tt i j s m ∙ stopped (stops_last r.last) r _ ((repeated_repeats b None i s m).early less) in
+          let steps : (repeated b None (i + j) s m).steps ≡ r.steps = ap (λ (x : RunAnswer W). x.steps) same in
           absurd (omega arith)
 
   -- the run of i steps, of one that does at least so many: it does them all, and ends at the state before the next
@@ -45,10 +45,10 @@ module _ {W : Type 0} (b : Bus W) (s : Cpu) (m : W) where
   reaches : (v : Admission) → admission b s m ≡ v → (i budget : ℕ) → i ≤ (run_for b budget s m).steps → Reaches i (run_for b i s m)
   unfolding state_at
   reaches accepted e i budget reached =
-      let long : (run_for b budget s m).steps ≡ (repeated b NothingRun budget s m).steps = ap (λ (r : RunAnswer W). r.steps) (run_as b budget s m e) in
-      let most : (repeated b NothingRun budget s m).steps ≤ budget = (repeated_repeats b NothingRun budget s m).in_budget in
+      let long : (run_for b budget s m).steps ≡ (repeated b None budget s m).steps = ap (λ (r : RunAnswer W). r.steps) (run_as b budget s m e) in
+      let most : (repeated b None budget s m).steps ≤ budget = (repeated_repeats b None budget s m).in_budget in
       let sum : budget ≡ i + (budget - i) = omega arith in
-      let split : (repeated b NothingRun budget s m).steps ≡ (repeated b NothingRun (i + (budget - i)) s m).steps = ap (λ (n : ℕ). (repeated b NothingRun n s m).steps) sum in
+      let split : (repeated b None budget s m).steps ≡ (repeated b None (i + (budget - i)) s m).steps = ap (λ (n : ℕ). (repeated b None n s m).steps) sum in
       let all : (run_for b i s m).steps ≡ i = ap (λ (r : RunAnswer W). r.steps) (run_as b i s m e) ∙ whole_piece i (budget - i) (omega arith) in
       (all, (run_end b i s m e).0 ∙ ap (state_at b (memory_at b s m) s) all)
   reaches (refused_as r) e i budget reached =

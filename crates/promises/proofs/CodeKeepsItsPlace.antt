@@ -6,7 +6,7 @@ use native.Mathlib.Omega.{arith}
 use lib.Dec.{T}
 use lib.ListN.{length}
 use Rattle.sm83.specs.declared.Cpu.{Cpu}
-use Rattle.routine.specs.declared.Verdict.TheVariants.{Passes}
+use Rattle.std.specs.Prelude.{Ok}
 use Rattle.definition.specs.Bus.{Performed, plain}
 use Rattle.sm83.specs.State.{pc}
 use Rattle.definition.specs.Step.{Ended, step_on}
@@ -19,7 +19,7 @@ use Rattle.promises.proofs.Between.{stopped_in_between}
 use Rattle.promises.proofs.Calls.{ScreenCall, screened, first_of, last_of, lent_marks, marks_left, verdict_is, marks_are, StepCall, state_given, memory_given, memory_left, outcome_is, state_is, memory_is, RunCall, state_run, memory_run, budget_of, answered, run_answers}
 
 -- The window was screened and passes; its marks are those that the call left.
-module _ (call : ScreenCall) (passes : call.verdict ≡ Passes) (address : last_of call < 65536) where
+module _ (call : ScreenCall) (passes : call.verdict ≡ Ok tt) (address : last_of call < 65536) where
   abbrev pub first : ℕ
   first = first_of call
 
@@ -29,7 +29,7 @@ module _ (call : ScreenCall) (passes : call.verdict ≡ Passes) (address : last_
   abbrev pub Marked : ℕ → Type 0
   Marked a = T (is_marked (marks_left call) first a)
 
-  passed : (screen (screened call) (first_of call) (last_of call) (lent_marks call)).verdict ≡ Passes
+  passed : (screen (screened call) (first_of call) (last_of call) (lent_marks call)).verdict ≡ Ok tt
   passed = sym (verdict_is call) ∙ passes
 
   abbrev marks_of_the_screen : List ℕ

@@ -10,7 +10,8 @@ use lib.ListN.{length}
 use borrow.Author.Tests.{ltb-true, ltb-false, eqb-true, eqb-false, lt-ltb, le-ltb, eq-eqb, ne_eqb}
 use Rattle.routine.specs.declared.ScreenRefusal.{ScreenRefusal}
 use Rattle.routine.specs.declared.ScreenRefusal.TheVariants.{MemoryLength, WindowReversed, WindowTooLong, MarksLength}
-use Rattle.routine.specs.declared.Verdict.TheVariants.{Refused}
+use Rattle.std.specs.Prelude.{Err}
+use Rattle.routine.specs.declared.Finding.TheVariants.{BeforeWalk}
 use Rattle.routine.specs.Rules.{Rules}
 use Rattle.routine.specs.Screen.{verdict, Screened, marks_after, untouched, longest_window, screen}
 use Rattle.routine.proofs.Findings.{Shows}
@@ -71,13 +72,13 @@ module _ (m : List ℕ) (first last : ℕ) (marks : List ℕ) where
   admits ok = simp (eq-eqb _ _ ok.memory, le-ltb _ _ ok.order, le-ltb _ _ ok.size, eq-eqb _ _ ok.marks_size)
 
   -- and exactly then: a refusal without an address is one of the four
-  pub refused : (r : ScreenRefusal) → (screen m first last marks).verdict ≡ Refused r → Early r
+  pub refused : (r : ScreenRefusal) → (screen m first last marks).verdict ≡ Err (BeforeWalk r) → Early r
   refused r e = by early_or_admitted
     where
-      same : (q : ScreenRefusal) → (screen m first last marks).verdict ≡ Refused q → q ≡ r
+      same : (q : ScreenRefusal) → (screen m first last marks).verdict ≡ Err (BeforeWalk q) → q ≡ r
       same q f = cc
 
-      never : Admitted → verdict m first (window first last) ≡ Refused r
+      never : Admitted → verdict m first (window first last) ≡ Err (BeforeWalk r)
       never ok = sym (ap (λ (s : Screened). s.verdict) (admits ok)) ∙ e
 
       by : ((q : ScreenRefusal) × Early q) ⊎ Admitted → Early r
@@ -85,7 +86,7 @@ module _ (m : List ℕ) (first last : ℕ) (marks : List ℕ) where
       by (inr ok) = absurd (subst (Shows m first (first + window first last) (Rules m first (first + window first last))) (never ok) (verdict_shows m first (window first last)))
 
   -- "Lengths 4,096 and 4,097 either side of 5": the longest window, and one byte more
-  pub never_5 : window first last ≡ longest_window → (screen m first last marks).verdict ≡ Refused WindowTooLong → ⊥
+  pub never_5 : window first last ≡ longest_window → (screen m first last marks).verdict ≡ Err (BeforeWalk WindowTooLong) → ⊥
   never_5 w e = too_short (refused WindowTooLong e)
     where
       too_short : Early WindowTooLong → ⊥

@@ -5,8 +5,9 @@ use Prim.Native.Nat.{ℕ, ◌+◌, ◌≤◌, ◌<◌}
 use native.Mathlib.Omega.{arith}
 use lib.Dec.{not_T, ltb, ltb→lt, nltb→le}
 use Rattle.routine.specs.declared.ScreenRefusal.{ScreenRefusal}
-use Rattle.routine.specs.declared.Verdict.{Verdict}
-use Rattle.routine.specs.declared.Verdict.TheVariants.{Passes, Refused, RefusedAt}
+use Rattle.routine.specs.Verdict.{Verdict}
+use Rattle.std.specs.Prelude.{Ok, Err}
+use Rattle.routine.specs.declared.Finding.TheVariants.{BeforeWalk, At}
 use Rattle.routine.specs.Rules.{Rules}
 use Rattle.routine.specs.Screen.{refused_at, verdict}
 use Rattle.routine.proofs.Findings.{Asks, refusal_at, Shows}
@@ -35,13 +36,13 @@ module _ (m : List ℕ) (first end : ℕ) where
 
   -- two verdicts that show what they say are the same
   pub one_verdict : (v w : Verdict) → Shows m first end (Rules m first end) v → Shows m first end (Rules m first end) w → v ≡ w
-  one_verdict Passes Passes p q = refl
-  one_verdict Passes (Refused s) p q = absurd q
-  one_verdict Passes (RefusedAt s b) p q = absurd (no_finding p q)
-  one_verdict (Refused r) w p q = absurd p
-  one_verdict (RefusedAt r a) Passes p q = absurd (no_finding q p)
-  one_verdict (RefusedAt r a) (Refused s) p q = absurd q
-  one_verdict (RefusedAt r a) (RefusedAt s b) p q = one_lowest (breaks m first end p) (breaks m first end q)
+  one_verdict (Ok done) (Ok too) p q = refl
+  one_verdict (Ok done) (Err (BeforeWalk s)) p q = absurd q
+  one_verdict (Ok done) (Err (At s b)) p q = absurd (no_finding p q)
+  one_verdict (Err (BeforeWalk r)) w p q = absurd p
+  one_verdict (Err (At r a)) (Ok done) p q = absurd (no_finding q p)
+  one_verdict (Err (At r a)) (Err (BeforeWalk s)) p q = absurd q
+  one_verdict (Err (At r a)) (Err (At s b)) p q = one_lowest (breaks m first end p) (breaks m first end q)
 
 -- each refusal with an address comes exactly when its finding is there
 pub decided : (m : List ℕ) (first n : ℕ) (v : Verdict) → Shows m first (first + n) (Rules m first (first + n)) v → verdict m first n ≡ v

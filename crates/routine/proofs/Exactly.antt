@@ -11,8 +11,9 @@ use lib.Dec.{T, T_not}
 use lib.ListN.{length}
 use Rattle.sm83.specs.declared.Addr.{Addr}
 use Rattle.routine.specs.declared.ScreenRefusal.{ScreenRefusal}
-use Rattle.routine.specs.declared.Verdict.{Verdict}
-use Rattle.routine.specs.declared.Verdict.TheVariants.{Passes, Refused, RefusedAt}
+use Rattle.routine.specs.Verdict.{Verdict}
+use Rattle.std.specs.Prelude.{Ok, Err}
+use Rattle.routine.specs.declared.Finding.TheVariants.{BeforeWalk, At}
 use Rattle.routine.specs.Flow.{class_at, past, ends_routine}
 use Rattle.routine.specs.Rules.{Start, at_first, after, Rules}
 use Rattle.routine.specs.Screen.{marks_of, is_marked, tests, findings, verdict}
@@ -53,11 +54,11 @@ verdict_shows m first n =
     (first_shows m first end 0 (findings m marked first n) (λ before. walk_shows m first n, scans_show m first n marked is-start 1 tests (tests_tell m first end marked is-start)) (λ j low. absurd (omega arith)))
   where
     in_words : (v : Verdict) → Shows m first (first + n) (Before m first (first + n) (suc (length tests))) v → Shows m first (first + n) (Rules m first (first + n)) v
-    in_words Passes asked = kept m first (first + n) asked
-    in_words (Refused r) none = none
-    in_words (RefusedAt r a) finding = finding
+    in_words (Ok done) asked = kept m first (first + n) asked
+    in_words (Err (BeforeWalk r)) none = none
+    in_words (Err (At r a)) finding = finding
 
-pub found : (m : List ℕ) (first n : ℕ) (r : ScreenRefusal) (a : Addr) → verdict m first n ≡ RefusedAt r a → Finding m first (first + n) r a.0
+pub found : (m : List ℕ) (first n : ℕ) (r : ScreenRefusal) (a : Addr) → verdict m first n ≡ Err (At r a) → Finding m first (first + n) r a.0
 found m first n r a e = subst (Shows m first (first + n) (Rules m first (first + n))) e (verdict_shows m first n)
 
 module _ {m : List ℕ} {first end : ℕ} (rules : Rules m first end) where
@@ -86,10 +87,10 @@ module _ {m : List ℕ} {first end : ℕ} (rules : Rules m first end) where
           go (inr low) rest = rest low
 
 -- "It passes exactly when none of these applies."
-pub exactly : (m : List ℕ) (first n : ℕ) → (verdict m first n ≡ Passes) ↔ Rules m first (first + n)
+pub exactly : (m : List ℕ) (first n : ℕ) → (verdict m first n ≡ Ok tt) ↔ Rules m first (first + n)
 exactly m first n = (λ e. subst (Shows m first (first + n) (Rules m first (first + n))) e (verdict_shows m first n), λ rules. only rules (verdict m first n) (verdict_shows m first n))
   where
-    only : Rules m first (first + n) → (v : Verdict) → Shows m first (first + n) (Rules m first (first + n)) v → v ≡ Passes
-    only rules Passes shown = refl
-    only rules (Refused r) shown = absurd shown
-    only rules (RefusedAt r a) shown = absurd (no_finding rules shown)
+    only : Rules m first (first + n) → (v : Verdict) → Shows m first (first + n) (Rules m first (first + n)) v → v ≡ Ok tt
+    only rules (Ok done) shown = refl
+    only rules (Err (BeforeWalk r)) shown = absurd shown
+    only rules (Err (At r a)) shown = absurd (no_finding rules shown)

@@ -8,8 +8,9 @@ use native.Mathlib.Omega.{arith}
 use lib.Dec.{T, eqb}
 use Rattle.routine.specs.declared.ScreenRefusal.{ScreenRefusal}
 use Rattle.routine.specs.declared.ScreenRefusal.TheVariants.{ForbiddenOpcode, PastTheEnd, FallsThrough, JumpUnmarked}
-use Rattle.routine.specs.declared.Verdict.{Verdict}
-use Rattle.routine.specs.declared.Verdict.TheVariants.{Passes, Refused, RefusedAt}
+use Rattle.routine.specs.Verdict.{Verdict}
+use Rattle.std.specs.Prelude.{Ok, Err}
+use Rattle.routine.specs.declared.Finding.TheVariants.{BeforeWalk, At}
 use Rattle.routine.specs.Numbers.{number_of}
 use Rattle.routine.specs.Flow.{class_at, past, is_forbidden, ends_routine}
 use Rattle.routine.specs.Rules.{Start, JumpsTo}
@@ -102,6 +103,6 @@ module _ (m : List ℕ) (first end : ℕ) where
 
   -- what a verdict shows: P if it passes, the finding if it names an address; no other comes
   abbrev pub Shows : Type 0 → Verdict → Type 0
-  Shows P Passes = P
-  Shows P (Refused r) = ⊥
-  Shows P (RefusedAt r a) = Finding r a.0
+  Shows P (Ok done) = P
+  Shows P (Err (BeforeWalk r)) = ⊥
+  Shows P (Err (At r a)) = Finding r a.0

@@ -1,4 +1,5 @@
 -- What each instruction that goes on to the next one leaves, whatever memory answers: a calm state whose PC is past its bytes.
+use Rattle.std.specs.Prelude.{Option}
 use mathlib.Core.Path.{◌≡◌, refl}
 use mathlib.Core.Bool.{false}
 use Prim.Native.Nat.{ℕ, ◌%◌}
@@ -6,7 +7,6 @@ use native.Mathlib.Omega.{arith}
 use lib.Dec.{T}
 use Rattle.sm83.specs.declared.Cpu.{Cpu}
 use Rattle.sm83.specs.declared.HaltMode.TheVariants.{NotHalting}
-use Rattle.outcome.specs.declared.interrupt.NextInterrupt.{NextInterrupt}
 use Rattle.outcome.specs.declared.Outcome.TheVariants.{Normal}
 use Rattle.definition.specs.Bus.{Ask, leaf, read, write, idle, peek, write_and_take}
 use Rattle.sm83.specs.State.{pc, sp, flags, set_pc, set_sp, set_f, on_registers}
@@ -18,6 +18,7 @@ use Rattle.definition.specs.Execution.{get8, put8, put16, put_stacked, moved, wo
 use Rattle.definition.specs.Step.{Ended, ended}
 use Rattle.definition.proofs.Columns.{ahead}
 use Rattle.routine.specs.Trace.{is_fine}
+use Rattle.outcome.specs.declared.interrupt.InterruptType.{InterruptType}
 
 abbrev pub anything : ℕ → ℕ → Type 0
 anything a v = Unit {0}
@@ -28,7 +29,7 @@ Ends K Q (leaf e) = Q e
 Ends K Q (read k a f) = (v : ℕ) → K a v → Ends K Q (f v)
 Ends K Q (write k a v p) = Ends anything Q p
 Ends K Q (idle p) = Ends K Q p
-Ends K Q (peek f) = (i : NextInterrupt) → Ends K Q (f i)
+Ends K Q (peek f) = (i : Option InterruptType) → Ends K Q (f i)
 Ends K Q (write_and_take a v f) = ⊥
 
 -- Quiet, as a product that a change of registers other than F leaves as it is

@@ -7,7 +7,7 @@ use native.Mathlib.Omega.{arith}
 use lib.Dec.{T}
 use lib.ListN.{length}
 use Rattle.sm83.specs.declared.Cpu.{Cpu}
-use Rattle.routine.specs.declared.Verdict.TheVariants.{Passes}
+use Rattle.std.specs.Prelude.{Ok}
 use Rattle.definition.specs.Bus.{Performed, plain}
 use Rattle.sm83.specs.State.{pc}
 use Rattle.definition.specs.Step.{Ended}
@@ -25,7 +25,7 @@ use Rattle.routine.proofs.RunDemand3.{run_each, run_fine, run_covered, runs_cove
 use Rattle.routine.proofs.NothingPending.{Inside, LeftAlone, RunLeftAlone, goes_on, stays_within, runs_go_on}
 
 -- a window of a memory, from first to last, both addresses in it; the marks as they were lent
-module _ (m : List ℕ) (first last : ℕ) (lent : List ℕ) (passes : (screen m first last lent).verdict ≡ Passes) (address : last < 65536) where
+module _ (m : List ℕ) (first last : ℕ) (lent : List ℕ) (passes : (screen m first last lent).verdict ≡ Ok tt) (address : last < 65536) where
   abbrev n : ℕ
   n = window first last
 

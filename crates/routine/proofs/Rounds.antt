@@ -8,8 +8,9 @@ use native.Mathlib.Omega.{arith}
 use lib.Dec.{T_not}
 use lib.Ieee.Bits.{is_true, is_false}
 use Rattle.routine.specs.declared.ScreenRefusal.{ScreenRefusal}
-use Rattle.routine.specs.declared.Verdict.{Verdict}
-use Rattle.routine.specs.declared.Verdict.TheVariants.{Passes, Refused, RefusedAt}
+use Rattle.routine.specs.Verdict.{Verdict}
+use Rattle.std.specs.Prelude.{Ok, Err}
+use Rattle.routine.specs.declared.Finding.TheVariants.{BeforeWalk, At}
 use Rattle.routine.specs.Flow.{class_at, is_forbidden, ends_routine}
 use Rattle.routine.specs.Screen.{first_of}
 use Rattle.routine.proofs.Findings.{Asks, refusal_at, place, Every, Before, LowestAt, Finding, forbidden, runs_past, falls_through, strays, Shows}
@@ -33,9 +34,9 @@ module _ (m : List ℕ) (first end : ℕ) where
 
   pub first_shows : (k : ℕ) (l : List Verdict) → Told k l → Before m first end k → Shows m first end (Before m first end (after k l)) (first_of l)
   first_shows k [] told before = before
-  first_shows k (Passes ∷ l) told before = first_shows (suc k) l told.1 (further k before (told.0 before))
-  first_shows k (Refused r ∷ l) told before = absurd (told.0 before)
-  first_shows k (RefusedAt r a ∷ l) told before = told.0 before
+  first_shows k (Ok done ∷ l) told before = first_shows (suc k) l told.1 (further k before (told.0 before))
+  first_shows k (Err (BeforeWalk r) ∷ l) told before = absurd (told.0 before)
+  first_shows k (Err (At r a) ∷ l) told before = told.0 before
 
   -- a finding is the lowest of its round, which asks otherwise there, and has the round's number
   pub record Broken (r : ScreenRefusal) (a : ℕ) : Type 0 where

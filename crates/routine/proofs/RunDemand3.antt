@@ -1,18 +1,19 @@
 -- Demand 3 for budgeted runs: if no step before a run's last takes a return or writes into the routine, each of its steps is fine, and its last outcome too; if its last does neither, then it ends covered.
 -- And for runs one after the other: so does the next, if the host between the two spares the routine.
+use Rattle.std.specs.Prelude.{Option}
 use mathlib.Core.Path.{subst⁻¹}
 use mathlib.Core.List.{List}
 use Prim.Native.Nat.{ℕ, zero, suc, ◌<◌}
 use native.Mathlib.Omega.{arith}
 use lib.Dec.{T}
 use Rattle.sm83.specs.declared.Cpu.{Cpu}
-use Rattle.outcome.specs.declared.LastOutcome.{LastOutcome}
 use Rattle.definition.specs.Bus.{Bus}
 use Rattle.definition.specs.Run.{run_for}
 use Rattle.routine.specs.Trace.{Fine, is_fine_last, Pending, state_at, step_at, pending_at, memory_at, StaysToTheLast, StaysToTheEnd, run_state_at, run_pending_at, RunGoesOn}
 use Rattle.routine.proofs.Covered.{Covered, Passed, accepts, host_covered}
 use Rattle.routine.proofs.Alone.{run_end, run_last}
 use Rattle.routine.proofs.Demand3.{demand3_alone}
+use Rattle.outcome.specs.declared.Outcome.{Outcome}
 
 module _ {W : Type 0} {b : Bus W} {screened : List ℕ} {first n : ℕ} (passed : Passed b screened first n) where
   module _ {s : Cpu} {m : W} {l : List Pending} (begun : Covered b screened first n s m l) (budget : ℕ) where
@@ -24,7 +25,7 @@ module _ {W : Type 0} {b : Bus W} {screened : List ℕ} {first n : ℕ} (passed 
     run_each stays i below = demand3_alone passed s m l begun i (λ j earlier. stays j (omega arith))
 
     pub run_fine : StaysToTheLast b first n budget s m l → T (is_fine_last (run_for b budget s m).last)
-    run_fine stays = run_last b budget s m (accepts begun) (λ (o : LastOutcome). T (is_fine_last o)) tt (λ i below. (run_each stays i below).1.outcome)
+    run_fine stays = run_last b budget s m (accepts begun) (λ (o : Option Outcome). T (is_fine_last o)) tt (λ i below. (run_each stays i below).1.outcome)
 
     pub run_covered : StaysToTheEnd b first n budget s m l → Covered b screened first n (run_for b budget s m).cpu (run_for b budget s m).memory (pending_at b (memory_at b s m) s l (run_for b budget s m).steps)
     run_covered stays =

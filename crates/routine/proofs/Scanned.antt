@@ -10,12 +10,10 @@ use native.Mathlib.Omega.{arith}
 use lib.Dec.{T, T_not, not_T, eqb, eqb→eq}
 use borrow.Author.Tests.{eq-eqb}
 use mir.Facts.{and_yes, yes_and, T_not-not}
-use Rattle.routine.specs.declared.Verdict.{Verdict}
-use Rattle.routine.specs.declared.Test.{Test}
-use Rattle.routine.specs.declared.Test.TheVariants.{Ends, Lands}
+use Rattle.routine.specs.Verdict.{Verdict}
 use Rattle.routine.specs.Flow.{class_at, flow_at, past, ends_routine}
 use Rattle.routine.specs.Rules.{Start}
-use Rattle.routine.specs.Screen.{refused_at, scan, passes, refusal_of, scan_for, tests}
+use Rattle.routine.specs.Screen.{Test, Ends, Lands, refused_at, scan, passes, refusal_of, scan_for, tests}
 use Rattle.routine.proofs.Starts.{start_low, start_high}
 use Rattle.routine.proofs.Jumps.{target_passes, target_fails}
 use Rattle.routine.proofs.Findings.{Asks, place, Every, Below, Before, Lowest, LowestAt, Finding, falls_through, strays, Shows}

@@ -8,7 +8,7 @@ use Prim.Native.Nat.{ℕ, zero, suc, ◌+◌, ◌≤◌, ◌<◌}
 use native.Mathlib.Omega.{arith}
 use lib.Dec.{T}
 use Rattle.routine.specs.declared.ScreenRefusal.TheVariants.{ForbiddenOpcode, PastTheEnd}
-use Rattle.routine.specs.declared.Verdict.{Verdict}
+use Rattle.routine.specs.Verdict.{Verdict}
 use Rattle.opcodes.specs.Instruction.{operands}
 use Rattle.routine.specs.Flow.{class_at, instruction_at, past, is_forbidden}
 use Rattle.routine.specs.Rules.{Start, at_first, after}

@@ -1,4 +1,5 @@
--- What the screen and demand 3 state: the numbers of a verdict, where control may go, the rules on a window, the screen, and the traces of a routine.
+-- What the screen and demand 3 state: what a verdict is and its number, where control may go, the rules on a window, the screen, and the traces of a routine.
+pub mod Verdict
 pub mod Numbers
 pub mod Flow
 pub mod Rules

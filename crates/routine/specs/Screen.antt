@@ -1,17 +1,15 @@
 -- What the screen answers of a window and leaves in the marks: the tests before the walk, the walk, and the tests after it.
-use Rattle.std.specs.Prelude.{Bool, true, not, ◌&&◌, List, [], ◌∷◌, map, ℕ, zero, suc, ◌+◌, ◌-◌, eqb, leb, ltb, get_or, length, replicate, if◌then◌else◌}
+use Rattle.std.specs.Prelude.{Bool, true, not, ◌&&◌, List, [], ◌∷◌, map, ℕ, zero, suc, ◌+◌, ◌-◌, eqb, leb, ltb, get_or, length, replicate, if◌then◌else◌, Ok, Err}
 use Rattle.routine.specs.declared.ScreenRefusal.{ScreenRefusal}
 use Rattle.routine.specs.declared.ScreenRefusal.TheVariants.{MemoryLength, WindowReversed, WindowTooLong, MarksLength, ForbiddenOpcode, PastTheEnd, FallsThrough, JumpUnmarked}
-use Rattle.routine.specs.declared.Verdict.{Verdict}
-use Rattle.routine.specs.declared.Verdict.TheVariants.{Passes, Refused, RefusedAt}
+use Rattle.routine.specs.Verdict.{Verdict}
+use Rattle.routine.specs.declared.Finding.TheVariants.{BeforeWalk, At}
 use Rattle.sm83.specs.State.{addr}
 use Rattle.opcodes.specs.Instruction.{operands}
-use Rattle.routine.specs.declared.Test.{Test}
-use Rattle.routine.specs.declared.Test.TheVariants.{Ends, Lands}
 use Rattle.routine.specs.Flow.{class_at, instruction_at, flow_at, past, is_forbidden, ends_routine, jumps_where}
 
 abbrev pub refused_at : ScreenRefusal → ℕ → Verdict
-refused_at r a = RefusedAt r (addr a)
+refused_at r a = Err (At r (addr a))
 
 -- The walk. Of the instruction that began at `start`, k bytes are still to come; n bytes of the window are left, from `at` on.
 
@@ -24,7 +22,7 @@ marks_from m (suc k) at (suc n) = 0 ∷ marks_from m k (suc at) n
 
 -- "At each start 7 is tested before 8, and the first finding by address wins."
 unfoldable pub walk : List ℕ → ℕ → ℕ → ℕ → ℕ → Verdict
-walk m start zero at zero = Passes
+walk m start zero at zero = Ok tt
 walk m start (suc k) at zero = refused_at PastTheEnd start
 walk m start zero at (suc n) =
     let rest : Verdict = walk m at (operands (instruction_at m at)) (suc at) n in
@@ -39,7 +37,11 @@ marks_of m first n = marks_from m 0 first n
 abbrev pub is_marked : List ℕ → ℕ → ℕ → Bool
 is_marked marks first a = leb first a && eqb (get_or marks (a - first) 0) 1
 
--- The tests of one marked address of a window up to end: what passes each, and what is refused if it does not.
+-- The tests of one marked address of a window up to end, after the walk: what passes each, and what is refused if it does not.
+
+-- that it ends the routine if it is the last, 9; that it lands on a mark if it jumps, 10
+pub data Test : Type 0 where
+  Ends Lands : Test
 
 abbrev pub passes : Test → List ℕ → (ℕ → Bool) → ℕ → ℕ → Bool
 -- 9: "the last instruction must be an unconditional JP, JR or RET"
@@ -53,7 +55,7 @@ refusal_of Lands = JumpUnmarked
 
 -- the lowest of n addresses from `at` on that is marked and fails the test
 unfoldable pub scan : ScreenRefusal → (ℕ → Bool) → (ℕ → Bool) → ℕ → ℕ → Verdict
-scan r marked test at zero = Passes
+scan r marked test at zero = Ok tt
 scan r marked test at (suc n) =
     let rest : Verdict = scan r marked test (suc at) n in
     if marked at && not (test at) then refused_at r at else rest
@@ -63,10 +65,9 @@ scan_for m marked first n t = scan (refusal_of t) marked (passes t m marked (fir
 
 -- the first finding of a list of them
 abbrev pub first_of : List Verdict → Verdict
-first_of [] = Passes
-first_of (Passes ∷ l) = first_of l
-first_of (Refused r ∷ l) = Refused r
-first_of (RefusedAt r a ∷ l) = RefusedAt r a
+first_of [] = Ok tt
+first_of (Ok done ∷ l) = first_of l
+first_of (Err finding ∷ l) = Err finding
 
 -- after 7 and 8 comes 9, then 10, "lowest jump first"
 abbrev pub tests : List Test
@@ -85,12 +86,11 @@ pub record Screened : Type 0 where
 
 -- "marks all 0", unless it passes
 abbrev pub marks_after : Verdict → List ℕ → ℕ → ℕ → List ℕ
-marks_after Passes m first n = marks_of m first n
-marks_after (Refused r) m first n = replicate n 0
-marks_after (RefusedAt r a) m first n = replicate n 0
+marks_after (Ok done) m first n = marks_of m first n
+marks_after (Err finding) m first n = replicate n 0
 
 abbrev pub untouched : ScreenRefusal → List ℕ → Screened
-untouched r marks = record { verdict = Refused r; marks = marks }
+untouched r marks = record { verdict = Err (BeforeWalk r); marks = marks }
 
 abbrev pub longest_window : ℕ
 longest_window = 4096

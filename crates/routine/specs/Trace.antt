@@ -1,11 +1,9 @@
 -- Demand 3's words: a processor whose memory a host may change between two steps or between two runs, the calls that have not returned, and what ends its coverage.
-use Rattle.std.specs.Prelude.{◌≡◌, Bool, true, false, not, ◌&&◌, ◌||◌, List, [], ◌∷◌, ℕ, zero, suc, ◌+◌, ◌%◌, ◌≤◌, ◌<◌, eqb, leb, ltb, T, if◌then◌else◌}
+use Rattle.std.specs.Prelude.{◌≡◌, Bool, true, false, not, ◌&&◌, ◌||◌, List, [], ◌∷◌, ℕ, zero, suc, ◌+◌, ◌%◌, ◌≤◌, ◌<◌, eqb, leb, ltb, T, if◌then◌else◌, None, Option, Some}
 use Rattle.sm83.specs.declared.Cpu.{Cpu}
 use Rattle.sm83.specs.declared.HaltMode.TheVariants.{NotHalting}
 use Rattle.outcome.specs.declared.Outcome.{Outcome}
 use Rattle.outcome.specs.declared.Outcome.TheVariants.{Normal, InfiniteLoop, Halting, RunningHDMA, Stopped, RunningInterrupt, Breakpoint, Refused}
-use Rattle.outcome.specs.declared.LastOutcome.{LastOutcome}
-use Rattle.outcome.specs.declared.LastOutcome.TheVariants.{NothingRun, Last}
 use Rattle.sm83.specs.Basics.{next, back}
 use Rattle.definition.specs.Bus.{Bus, Performed, Access, Read, Write, Idle, WriteAndTake}
 use Rattle.sm83.specs.State.{pc, sp, flags}
@@ -56,9 +54,9 @@ is_fine (RunningInterrupt i) = false
 is_fine (Breakpoint r) = true
 is_fine (Refused r) = false
 
-abbrev pub is_fine_last : LastOutcome → Bool
-is_fine_last NothingRun = true
-is_fine_last (Last o) = is_fine o
+abbrev pub is_fine_last : Option Outcome → Bool
+is_fine_last None = true
+is_fine_last (Some o) = is_fine o
 
 -- "no step is refused, halts, stops or takes an interrupt": neither by its outcome, nor by its accesses, nor by the state that it leaves
 pub record Fine {W : Type 0} (r : Performed W Ended) : Type 0 where

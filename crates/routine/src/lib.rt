@@ -2,7 +2,7 @@
 #![tactic(auto)]
 
 ghost use Rattle.std.specs.Prelude.{◌≡◌};
-ghost use Rattle.routine.specs.Numbers.{number_of, verdict_number};
+ghost use Rattle.routine.specs.Numbers.{number_of, finding_number, verdict_number};
 
 use sm83::Addr;
 
@@ -21,62 +21,51 @@ pub enum Class {
     CallIf,
 }
 
-// The screen's tests of one marked address, after the walk: that it ends the routine if it is the last, 9; that it lands on a mark if it jumps, 10.
-#[derive(Clone, Copy)]
-pub enum Test {
-    Ends,
-    Lands,
-}
-
 // Why the screen says no, in the order of the document's table. A step's refusals are a kind of their own.
 #[derive(Clone, Copy)]
 pub enum ScreenRefusal {
-    MemoryLength,
-    WindowReversed,
-    WindowTooLong,
-    MarksLength,
-    ForbiddenOpcode,
-    PastTheEnd,
-    FallsThrough,
-    JumpUnmarked,
+    MemoryLength = 1,
+    WindowReversed = 4,
+    WindowTooLong = 5,
+    MarksLength = 6,
+    ForbiddenOpcode = 7,
+    PastTheEnd = 8,
+    FallsThrough = 9,
+    JumpUnmarked = 10,
 }
 
 impl ScreenRefusal {
     pub fn number(self) -> u8
         ensures { result ≡ number_of self }
     {
-        let refusal = self;
-        match refusal {
-            ScreenRefusal::MemoryLength => 1,
-            ScreenRefusal::WindowReversed => 4,
-            ScreenRefusal::WindowTooLong => 5,
-            ScreenRefusal::MarksLength => 6,
-            ScreenRefusal::ForbiddenOpcode => 7,
-            ScreenRefusal::PastTheEnd => 8,
-            ScreenRefusal::FallsThrough => 9,
-            ScreenRefusal::JumpUnmarked => 10,
+        self as u8
+    }
+}
+
+// What the screen finds of a window that it does not pass: a refusal, from before the walk with no address, from then on at a start.
+#[derive(Clone, Copy)]
+pub enum Finding {
+    BeforeWalk(ScreenRefusal),
+    At(ScreenRefusal, Addr),
+}
+
+impl Finding {
+    // The refusal's number.
+    pub fn number(self) -> u8
+        ensures { result ≡ finding_number self }
+    {
+        match self {
+            Finding::BeforeWalk(refusal) | Finding::At(refusal, _) => refusal.number(),
         }
     }
 }
 
-// What the screen says of a window. A refusal from before the walk names no address.
-#[derive(Clone, Copy)]
-pub enum Verdict {
-    Passes,
-    Refused(ScreenRefusal),
-    RefusedAt(ScreenRefusal, Addr),
-}
-
-impl Verdict {
-    // 0, or the refusal's number.
-    pub fn number(self) -> u8
-        ensures { result ≡ verdict_number self }
-    {
-        let verdict = self;
-        match verdict {
-            Verdict::Passes => 0,
-            Verdict::Refused(refusal) => refusal.number(),
-            Verdict::RefusedAt(refusal, _) => refusal.number(),
-        }
+// 0 where the screen passes, or the finding's number.
+pub fn verdict_number(verdict: Result<(), Finding>) -> u8
+    ensures { result ≡ verdict_number verdict }
+{
+    match verdict {
+        Ok(()) => 0,
+        Err(finding) => finding.number(),
     }
 }

@@ -4,13 +4,14 @@ use mathlib.Core.List.{List}
 use Prim.Native.Nat.{ℕ, ◌≤◌}
 use lib.ListN.{length}
 use Rattle.routine.specs.declared.ScreenRefusal.TheVariants.{WindowTooLong}
-use Rattle.routine.specs.declared.Verdict.TheVariants.{Refused}
+use Rattle.std.specs.Prelude.{Err}
+use Rattle.routine.specs.declared.Finding.TheVariants.{BeforeWalk}
 use Rattle.routine.specs.Screen.{untouched, screen}
 use Rattle.routine.proofs.Before.{window, never_5, always_5}
 use Rattle.rows.specs.Rows.{let_in, too_long}
 
 module _ (m : List ℕ) (first last : ℕ) (marks : List ℕ) where
-  pub let_in_lem : window first last ≡ let_in → (screen m first last marks).verdict ≡ Refused WindowTooLong → ⊥
+  pub let_in_lem : window first last ≡ let_in → (screen m first last marks).verdict ≡ Err (BeforeWalk WindowTooLong) → ⊥
   let_in_lem = never_5 m first last marks
 
   pub too_long_lem : length m ≡ 65536 → first ≤ last → window first last ≡ too_long → screen m first last marks ≡ untouched WindowTooLong marks

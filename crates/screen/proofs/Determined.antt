@@ -1,7 +1,7 @@
 -- "For every input, refused ones too, the contract of a public function determines the answer, the state and each byte of memory or marks": any pair of answers that meet the contract of `screen`, as the source states it (`Post` and `Pre` are made from it), is identical, and it asks nothing of its input. Memory is lent as `&[u8]`, which nothing changes.
 use mathlib.Core.Path.{◌≡◌, sym, ◌∙◌}
 use Rattle.sm83.proofs.OneAnswer.{AnyInput}
-use Rattle.routine.specs.declared.Verdict.{Verdict}
+use Rattle.routine.specs.Verdict.{Verdict}
 use Rattle.screen.proofs.screen.Reads.{Pre, Post}
 
 pub takes_any_input : AnyInput Pre

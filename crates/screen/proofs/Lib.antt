@@ -1,4 +1,3 @@
--- Laws of the screen in code: verdicts and their order, the parts together, and that the contract leaves one answer.
-pub mod Verdicts
+-- Laws of the screen in code: the parts together, and that the contract leaves one answer.
 pub mod Whole
 pub mod Determined

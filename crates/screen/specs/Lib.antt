@@ -1,3 +1,3 @@
--- What the screen's parts state: an instruction's length and class, and what each pass asks, answers and leaves.
+-- What the screen's parts state: an instruction's length and class, and what each pass answers and leaves.
 pub mod Shapes
 pub mod Parts

@@ -1,13 +1,7 @@
--- What the screen's passes ask of their window, and what they answer and leave.
-use Rattle.std.specs.Prelude.{◌≡◌, List, ℕ, ◌+◌, ◌≤◌, ◌<◌, length}
-use Rattle.routine.specs.declared.Verdict.{Verdict}
+-- What the screen's passes over a window answer, and the marks that they leave.
+use Rattle.std.specs.Prelude.{◌≡◌, List, ℕ}
+use Rattle.routine.specs.Verdict.{Verdict}
 use Rattle.routine.specs.Screen.{walk, marks_after, Screened}
-
--- a whole memory, and a window of n bytes in it from first on
-pub record Inside (m : List ℕ) (first n : ℕ) : Type 0 where
-  pub memory : length m ≡ 65536
-  pub some : 0 < n
-  pub fits : first + n ≤ 65536
 
 -- the walk over a whole window
 abbrev pub walked : List ℕ → ℕ → ℕ → Verdict

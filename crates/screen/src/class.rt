@@ -10,43 +10,22 @@ use routine::Class;
 pub(crate) fn is_forbidden(class: Class) -> bool
     ensures { result ≡ is_forbidden class }
 {
-    match class {
-        Class::Basic => false,
-        Class::Barred => true,
-        Class::Return => false,
-        Class::ReturnIf => false,
-        Class::Absolute => false,
-        Class::AbsoluteIf => false,
-        Class::Relative => false,
-        Class::RelativeIf => false,
-        Class::Call => true,
-        Class::CallIf => true,
-    }
+    matches!(class, Class::Barred | Class::Call | Class::CallIf)
 }
 
 // "an unconditional JP, JR or RET"
 pub(crate) fn ends_routine(class: Class) -> bool
     ensures { result ≡ ends_routine class }
 {
-    match class {
-        Class::Basic => false,
-        Class::Barred => false,
-        Class::Return => true,
-        Class::ReturnIf => false,
-        Class::Absolute => true,
-        Class::AbsoluteIf => false,
-        Class::Relative => true,
-        Class::RelativeIf => false,
-        Class::Call => false,
-        Class::CallIf => false,
-    }
+    matches!(class, Class::Return | Class::Absolute | Class::Relative)
 }
 
-// Its length in bytes, and its class.
+// Its length in bytes, and its class; without names, so that an arm of `shape_of` is one line.
 #[derive(Clone, Copy)]
 pub struct Shape(pub u8, pub Class);
 
 // "Length and class are decided by ranges of the opcode byte, CB opcodes being two bytes long."
+#[tactic(auto, unfolding(opcodes::specs::Instruction::decode))]
 pub fn shape_of(opcode: u8) -> Shape
     ensures { result ≡ shape_of (decode opcode) }
 {

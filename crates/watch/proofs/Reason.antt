@@ -1,5 +1,5 @@
 -- What a reason says of the step in demand 3's words: a watch that goes on spares the window, one that ends by a write does not, and a fine step leaves no reason but a write.
-use Rattle.std.proofs.Common.{if◌then◌else◌}
+use Rattle.std.proofs.Common.{if◌then◌else◌, Option, Some, None}
 use mathlib.Core.Path.{◌≡◌, refl, subst, subst⁻¹}
 use mathlib.Core.Bool.{Bool, true, false, not, ◌&&◌}
 use mathlib.Core.List.{List, [], ◌∷◌}
@@ -20,32 +20,27 @@ use Rattle.routine.specs.Trace.{in_window, spares, takes_none, Quiet, is_fine, F
 use Rattle.watch.specs.Written.{written_by}
 use Rattle.watch.specs.Demanded.{is_halted, is_quiet}
 use Rattle.watch.specs.declared.reasons.Why.{Why}
-use Rattle.watch.specs.declared.reasons.Why.TheVariants.{Stays, Strays, Refused, Stops, Halts, Interrupted, Writes}
+use Rattle.watch.specs.declared.reasons.Why.TheVariants.{Strays, Refused, Stops, Halts, Interrupted, Writes}
 use Rattle.watch.specs.Reasons.{first_inside, by_outcome, by_state, by_accesses, why_of}
 
 -- the watch goes on
-abbrev pub GoesOn : Why → Type 0
-GoesOn Stays = Unit {0}
-GoesOn Strays = ⊥
-GoesOn Refused = ⊥
-GoesOn Stops = ⊥
-GoesOn Halts = ⊥
-GoesOn Interrupted = ⊥
-GoesOn (Writes a) = ⊥
+abbrev pub GoesOn : Option Why → Type 0
+GoesOn None = Unit {0}
+GoesOn (Some why) = ⊥
 
 -- it goes on, or the step writes into the window
-abbrev pub StaysOrWrites : Why → Type 0
-StaysOrWrites Stays = Unit {0}
-StaysOrWrites Strays = ⊥
-StaysOrWrites Refused = ⊥
-StaysOrWrites Stops = ⊥
-StaysOrWrites Halts = ⊥
-StaysOrWrites Interrupted = ⊥
-StaysOrWrites (Writes a) = Unit {0}
+abbrev pub StaysOrWrites : Option Why → Type 0
+StaysOrWrites None = Unit {0}
+StaysOrWrites (Some Strays) = ⊥
+StaysOrWrites (Some Refused) = ⊥
+StaysOrWrites (Some Stops) = ⊥
+StaysOrWrites (Some Halts) = ⊥
+StaysOrWrites (Some Interrupted) = ⊥
+StaysOrWrites (Some (Writes a)) = Unit {0}
 
 -- A watch that goes on.
 
-outcome_went : (o : Outcome) (rest : Why) → GoesOn (by_outcome o rest) → GoesOn rest
+outcome_went : (o : Outcome) (rest : Option Why) → GoesOn (by_outcome o rest) → GoesOn rest
 outcome_went outcome.Normal rest g = g
 outcome_went outcome.InfiniteLoop rest g = g
 outcome_went outcome.Halting rest g = absurd g
@@ -55,17 +50,17 @@ outcome_went (outcome.RunningInterrupt i) rest g = absurd g
 outcome_went (outcome.Breakpoint r) rest g = g
 outcome_went (outcome.Refused r) rest g = absurd g
 
-state_went : (stopped halted : Bool) (rest : Why) → GoesOn (if stopped then Stops else (if halted then Halts else rest)) → GoesOn rest
+state_went : (stopped halted : Bool) (rest : Option Why) → GoesOn (if stopped then Some Stops else (if halted then Some Halts else rest)) → GoesOn rest
 state_went true halted rest g = absurd g
 state_went false true rest g = absurd g
 state_went false false rest g = g
 
-accesses_went : (none : Bool) (rest : Why) → GoesOn (if none then rest else Interrupted) → GoesOn rest
+accesses_went : (none : Bool) (rest : Option Why) → GoesOn (if none then rest else Some Interrupted) → GoesOn rest
 accesses_went true rest g = g
 accesses_went false rest g = absurd g
 
 module _ (first n : ℕ) where
-  one_spared : (inside : Bool) (a : ℕ) (rest : Why) (others : Bool) → (GoesOn rest → T others) → GoesOn (if inside then Writes (addr a) else rest) → T (not inside && others)
+  one_spared : (inside : Bool) (a : ℕ) (rest : Option Why) (others : Bool) → (GoesOn rest → T others) → GoesOn (if inside then Some (Writes (addr a)) else rest) → T (not inside && others)
   one_spared true a rest others h g = absurd g
   one_spared false a rest others h g = h g
 
@@ -77,26 +72,26 @@ module _ (first n : ℕ) where
   all_spared (WriteAndTake a v ∷ l) g = one_spared (in_window first n a) a _ (spares first n l) (all_spared l) g
 
   -- "A write counts if its address lies in the window, even with an equal value"
-  pub stays_spares : (r : Performed (List ℕ) Ended) → why_of first n r ≡ Stays → T (spares first n r.accesses)
+  pub stays_spares : (r : Performed (List ℕ) Ended) → why_of first n r ≡ None → T (spares first n r.accesses)
   unfolding why_of
   stays_spares r e =
-      let rest : Why = by_state r.value.cpu (by_accesses first n r.accesses) in
+      let rest : Option Why = by_state r.value.cpu (by_accesses first n r.accesses) in
       let went : GoesOn (by_outcome r.value.outcome rest) = subst⁻¹ GoesOn e tt in
       all_spared r.accesses (accesses_went (takes_none r.accesses) _ (state_went r.value.cpu.stopped (is_halted r.value.cpu.halt) _ (outcome_went r.value.outcome rest went)))
 
 -- A watch that ends by a write: it lies in the window, and the window is not spared.
 
 module _ (first n : ℕ) where
-  abbrev IfWrites : Bool → Why → Type 0
-  IfWrites spared Stays = Unit {0}
-  IfWrites spared Strays = Unit {0}
-  IfWrites spared Refused = Unit {0}
-  IfWrites spared Stops = Unit {0}
-  IfWrites spared Halts = Unit {0}
-  IfWrites spared Interrupted = Unit {0}
-  IfWrites spared (Writes a) = T (in_window first n a.0) × T (not spared)
+  abbrev IfWrites : Bool → Option Why → Type 0
+  IfWrites spared None = Unit {0}
+  IfWrites spared (Some Strays) = Unit {0}
+  IfWrites spared (Some Refused) = Unit {0}
+  IfWrites spared (Some Stops) = Unit {0}
+  IfWrites spared (Some Halts) = Unit {0}
+  IfWrites spared (Some Interrupted) = Unit {0}
+  IfWrites spared (Some (Writes a)) = T (in_window first n a.0) × T (not spared)
 
-  by_the_outcome : (spared : Bool) (o : Outcome) (rest : Why) → IfWrites spared rest → IfWrites spared (by_outcome o rest)
+  by_the_outcome : (spared : Bool) (o : Outcome) (rest : Option Why) → IfWrites spared rest → IfWrites spared (by_outcome o rest)
   by_the_outcome spared outcome.Normal rest h = h
   by_the_outcome spared outcome.InfiniteLoop rest h = h
   by_the_outcome spared outcome.Halting rest h = tt
@@ -106,16 +101,16 @@ module _ (first n : ℕ) where
   by_the_outcome spared (outcome.Breakpoint r) rest h = h
   by_the_outcome spared (outcome.Refused r) rest h = tt
 
-  by_the_state : (spared stopped halted : Bool) (rest : Why) → IfWrites spared rest → IfWrites spared (if stopped then Stops else (if halted then Halts else rest))
+  by_the_state : (spared stopped halted : Bool) (rest : Option Why) → IfWrites spared rest → IfWrites spared (if stopped then Some Stops else (if halted then Some Halts else rest))
   by_the_state spared true halted rest h = tt
   by_the_state spared false true rest h = tt
   by_the_state spared false false rest h = h
 
-  by_the_accesses : (spared none : Bool) (rest : Why) → IfWrites spared rest → IfWrites spared (if none then rest else Interrupted)
+  by_the_accesses : (spared none : Bool) (rest : Option Why) → IfWrites spared rest → IfWrites spared (if none then rest else Some Interrupted)
   by_the_accesses spared true rest h = h
   by_the_accesses spared false rest h = tt
 
-  first_one : (inside : Bool) (a : ℕ) (rest : Why) (others : Bool) → in_window first n a ≡ inside → IfWrites others rest → IfWrites (not inside && others) (if inside then Writes (addr a) else rest)
+  first_one : (inside : Bool) (a : ℕ) (rest : Option Why) (others : Bool) → in_window first n a ≡ inside → IfWrites others rest → IfWrites (not inside && others) (if inside then Some (Writes (addr a)) else rest)
   first_one true a rest others e h = (subst⁻¹ T e tt, tt)
   first_one false a rest others e h = h
 
@@ -126,7 +121,7 @@ module _ (first n : ℕ) where
   any_one (Idle ∷ l) = any_one l
   any_one (WriteAndTake a v ∷ l) = first_one (in_window first n a) a _ (spares first n l) refl (any_one l)
 
-  pub writes_inside : (r : Performed (List ℕ) Ended) (a : Addr) → why_of first n r ≡ Writes a → T (in_window first n a.0) × T (not (spares first n r.accesses))
+  pub writes_inside : (r : Performed (List ℕ) Ended) (a : Addr) → why_of first n r ≡ Some (Writes a) → T (in_window first n a.0) × T (not (spares first n r.accesses))
   unfolding why_of
   writes_inside r a e =
       let spared : Bool = spares first n r.accesses in
@@ -134,7 +129,7 @@ module _ (first n : ℕ) where
 
 -- A fine step.
 
-outcome_fine : (o : Outcome) (rest : Why) → T (is_fine o) → StaysOrWrites rest → StaysOrWrites (by_outcome o rest)
+outcome_fine : (o : Outcome) (rest : Option Why) → T (is_fine o) → StaysOrWrites rest → StaysOrWrites (by_outcome o rest)
 outcome_fine outcome.Normal rest f h = h
 outcome_fine outcome.InfiniteLoop rest f h = h
 outcome_fine outcome.Halting rest f h = absurd f
@@ -144,11 +139,11 @@ outcome_fine (outcome.RunningInterrupt i) rest f h = absurd f
 outcome_fine (outcome.Breakpoint r) rest f h = h
 outcome_fine (outcome.Refused r) rest f h = absurd f
 
-state_fine : (s : Cpu) (rest : Why) → Quiet s → StaysOrWrites rest → StaysOrWrites (by_state s rest)
+state_fine : (s : Cpu) (rest : Option Why) → Quiet s → StaysOrWrites rest → StaysOrWrites (by_state s rest)
 state_fine s rest q h = rw (q.running, q.not_halting) h
 
 module _ (first n : ℕ) where
-  one_fine : (inside : Bool) (a : ℕ) (rest : Why) → StaysOrWrites rest → StaysOrWrites (if inside then Writes (addr a) else rest)
+  one_fine : (inside : Bool) (a : ℕ) (rest : Option Why) → StaysOrWrites rest → StaysOrWrites (if inside then Some (Writes (addr a)) else rest)
   one_fine true a rest h = tt
   one_fine false a rest h = h
 
@@ -156,7 +151,7 @@ module _ (first n : ℕ) where
   written_fine [] = tt
   written_fine (a ∷ l) = one_fine (in_window first n a) a _ (written_fine l)
 
-  accesses_fine : (none : Bool) (l : List ℕ) → T none → StaysOrWrites (if none then first_inside first n l else Interrupted)
+  accesses_fine : (none : Bool) (l : List ℕ) → T none → StaysOrWrites (if none then first_inside first n l else Some Interrupted)
   accesses_fine true l t = written_fine l
   accesses_fine false l t = absurd t
 

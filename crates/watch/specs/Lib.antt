@@ -1,5 +1,4 @@
--- What the watch states: the walk over a window byte by byte, where an instruction writes, what a step writes, why a watch ends, and a state as demand 3 wants it.
-pub mod Starts
+-- What the watch states: where an instruction writes, what a step writes, why a watch ends, and a state as demand 3 wants it.
 pub mod Places
 pub mod Written
 pub mod Reasons

@@ -1,5 +1,5 @@
 -- Where an instruction writes, by its form, and which addresses that are, from the registers after the fetch.
-use Rattle.std.specs.Prelude.{Bool, true, false, List, [], ◌∷◌, ℕ, if◌then◌else◌}
+use Rattle.std.specs.Prelude.{Bool, true, false, List, [], ◌∷◌, ℕ, if◌then◌else◌, Option, Some, None}
 use Rattle.sm83.specs.declared.CpuRegisters.{CpuRegisters}
 use Rattle.sm83.specs.Basics.{word, next, back}
 use Rattle.sm83.specs.State.{pair_bc, pair_de, pair_hl}
@@ -13,7 +13,7 @@ use Rattle.instruction.specs.Holding.{check_cond}
 use Rattle.definition.specs.Bus.{byte_at}
 use Rattle.definition.specs.Execution.{high}
 use Rattle.watch.specs.declared.place.Place.{Place}
-use Rattle.watch.specs.declared.place.Place.TheVariants.{Nowhere, AtBC, AtDE, AtHL, AtWord, AtTwo, AtHigh, AtHighC, Pushed, AfterCB}
+use Rattle.watch.specs.declared.place.Place.TheVariants.{AtBC, AtDE, AtHL, AtWord, AtTwo, AtHigh, AtHighC, Pushed, AfterCB}
 
 -- r8: [HL] is the byte at HL
 abbrev pub is_hl : Reg8 → Bool
@@ -26,15 +26,15 @@ is_hl rL = false
 is_hl [HL] = true
 is_hl rA = false
 
-abbrev pub place_of8 : Reg8 → Place
-place_of8 r = if is_hl r then AtHL else Nowhere
+abbrev pub place_of8 : Reg8 → Option Place
+place_of8 r = if is_hl r then Some AtHL else None
 
 -- [r16]
-abbrev pub place_pointed : Pointer → Place
-place_pointed [BC] = AtBC
-place_pointed [DE] = AtDE
-place_pointed [HL+] = AtHL
-place_pointed [HL-] = AtHL
+abbrev pub place_pointed : Pointer → Option Place
+place_pointed [BC] = Some AtBC
+place_pointed [DE] = Some AtDE
+place_pointed [HL+] = Some AtHL
+place_pointed [HL-] = Some AtHL
 
 -- cc
 abbrev pub condition_of : Cond → Condition
@@ -43,58 +43,58 @@ condition_of c_z = cn.Z
 condition_of c_nc = cn.NC
 condition_of c_c = cn.C
 
-abbrev pub place_of_work : Work → Place
-place_of_work NOP = Nowhere
-place_of_work DI = Nowhere
+abbrev pub place_of_work : Work → Option Place
+place_of_work NOP = None
+place_of_work DI = None
 place_of_work (LD-r8-r8 to from) = place_of8 to
 place_of_work (LD-r8-n8 to) = place_of8 to
-place_of_work (LD-r16-n16 to) = Nowhere
+place_of_work (LD-r16-n16 to) = None
 place_of_work (LD-[r16]-A p) = place_pointed p
-place_of_work (LD-A-[r16] p) = Nowhere
-place_of_work LD-[n16]-A = AtWord
-place_of_work LD-A-[n16] = Nowhere
-place_of_work LDH-[n8]-A = AtHigh
-place_of_work LDH-A-[n8] = Nowhere
-place_of_work LDH-[C]-A = AtHighC
-place_of_work LDH-A-[C] = Nowhere
-place_of_work LD-[n16]-SP = AtTwo
-place_of_work LD-SP-HL = Nowhere
-place_of_work LD-HL-SP+e8 = Nowhere
-place_of_work ADD-SP-e8 = Nowhere
-place_of_work (ALU-A-r8 op from) = Nowhere
-place_of_work (ALU-A-n8 op) = Nowhere
-place_of_work (ACC op) = Nowhere
+place_of_work (LD-A-[r16] p) = None
+place_of_work LD-[n16]-A = Some AtWord
+place_of_work LD-A-[n16] = None
+place_of_work LDH-[n8]-A = Some AtHigh
+place_of_work LDH-A-[n8] = None
+place_of_work LDH-[C]-A = Some AtHighC
+place_of_work LDH-A-[C] = None
+place_of_work LD-[n16]-SP = Some AtTwo
+place_of_work LD-SP-HL = None
+place_of_work LD-HL-SP+e8 = None
+place_of_work ADD-SP-e8 = None
+place_of_work (ALU-A-r8 op from) = None
+place_of_work (ALU-A-n8 op) = None
+place_of_work (ACC op) = None
 place_of_work (INC-r8 to) = place_of8 to
 place_of_work (DEC-r8 to) = place_of8 to
-place_of_work (INC-r16 to) = Nowhere
-place_of_work (DEC-r16 to) = Nowhere
-place_of_work (ADD-HL-r16 from) = Nowhere
-place_of_work (PUSH-r16 from) = Pushed cn.Unconditional
-place_of_work (POP-r16 to) = Nowhere
+place_of_work (INC-r16 to) = None
+place_of_work (DEC-r16 to) = None
+place_of_work (ADD-HL-r16 from) = None
+place_of_work (PUSH-r16 from) = Some (Pushed cn.Unconditional)
+place_of_work (POP-r16 to) = None
 
 -- a CALL pushes if it is made
-abbrev pub place_of_jump : Jump → Place
-place_of_jump JP-n16 = Nowhere
-place_of_jump JP-HL = Nowhere
-place_of_jump JR-e8 = Nowhere
-place_of_jump CALL-n16 = Pushed cn.Unconditional
-place_of_jump RET = Nowhere
-place_of_jump RETI = Nowhere
-place_of_jump (JP-cc-n16 c) = Nowhere
-place_of_jump (JR-cc-e8 c) = Nowhere
-place_of_jump (CALL-cc-n16 c) = Pushed (condition_of c)
-place_of_jump (RET-cc c) = Nowhere
-place_of_jump (RST-vec v) = Pushed cn.Unconditional
+abbrev pub place_of_jump : Jump → Option Place
+place_of_jump JP-n16 = None
+place_of_jump JP-HL = None
+place_of_jump JR-e8 = None
+place_of_jump CALL-n16 = Some (Pushed cn.Unconditional)
+place_of_jump RET = None
+place_of_jump RETI = None
+place_of_jump (JP-cc-n16 c) = None
+place_of_jump (JR-cc-e8 c) = None
+place_of_jump (CALL-cc-n16 c) = Some (Pushed (condition_of c))
+place_of_jump (RET-cc c) = None
+place_of_jump (RST-vec v) = Some (Pushed cn.Unconditional)
 
-abbrev pub place_of : Instruction → Place
+abbrev pub place_of : Instruction → Option Place
 place_of (does w) = place_of_work w
 place_of (goes j) = place_of_jump j
-place_of CB-prefix = AfterCB
-place_of HALT = Nowhere
-place_of STOP = Nowhere
-place_of EI = Nowhere
-place_of LD-B-B = Nowhere
-place_of ILLEGAL = Nowhere
+place_of CB-prefix = Some AfterCB
+place_of HALT = None
+place_of STOP = None
+place_of EI = None
+place_of LD-B-B = None
+place_of ILLEGAL = None
 
 -- after CB: BIT writes nothing
 abbrev pub writes_hl : Prefixed → Bool
@@ -115,14 +115,14 @@ abbrev pub word_there : CpuRegisters → List ℕ → ℕ
 word_there r m = word (byte_at m (next r.pc.0)) (byte_there r m)
 
 -- the addresses in order, from the registers after the fetch
-unfoldable pub addresses_at : Place → CpuRegisters → List ℕ → List ℕ
-addresses_at Nowhere r m = []
-addresses_at AtBC r m = pair_bc r ∷ []
-addresses_at AtDE r m = pair_de r ∷ []
-addresses_at AtHL r m = pair_hl r ∷ []
-addresses_at AtWord r m = word_there r m ∷ []
-addresses_at AtTwo r m = word_there r m ∷ next (word_there r m) ∷ []
-addresses_at AtHigh r m = high (byte_there r m) ∷ []
-addresses_at AtHighC r m = high r.c ∷ []
-addresses_at (Pushed c) r m = if check_cond c r.f then pushed_from r.sp.0 else []
-addresses_at AfterCB r m = if writes_hl (decode_cb (byte_there r m)) then pair_hl r ∷ [] else []
+unfoldable pub addresses_at : Option Place → CpuRegisters → List ℕ → List ℕ
+addresses_at None r m = []
+addresses_at (Some AtBC) r m = pair_bc r ∷ []
+addresses_at (Some AtDE) r m = pair_de r ∷ []
+addresses_at (Some AtHL) r m = pair_hl r ∷ []
+addresses_at (Some AtWord) r m = word_there r m ∷ []
+addresses_at (Some AtTwo) r m = word_there r m ∷ next (word_there r m) ∷ []
+addresses_at (Some AtHigh) r m = high (byte_there r m) ∷ []
+addresses_at (Some AtHighC) r m = high r.c ∷ []
+addresses_at (Some (Pushed c)) r m = if check_cond c r.f then pushed_from r.sp.0 else []
+addresses_at (Some AfterCB) r m = if writes_hl (decode_cb (byte_there r m)) then pair_hl r ∷ [] else []

@@ -8,32 +8,26 @@ ghost use Rattle.watch.specs.Demanded.{is_halted, is_quiet};
 
 use instruction::Condition;
 use instruction::conditions::check_cond;
-use map::byte::byte;
+use screen::memory::byte;
 use sm83::{Cpu, HaltMode};
 
 pub(crate) fn is_halted(halt: HaltMode) -> bool
     ensures { result ≡ is_halted halt }
 {
-    match halt {
-        HaltMode::NotHalting => false,
-        HaltMode::HaltRunInterrupt => true,
-        HaltMode::HaltNoRunInterrupt => true,
-        HaltMode::HaltBug => true,
-    }
+    !matches!(halt, HaltMode::NotHalting)
 }
 
 // A state that a step accepts, awake, with interrupts off and none being enabled.
 pub fn quiet(cpu: Cpu) -> bool
     ensures { result ≡ is_quiet cpu }
 {
-    let regs = cpu.registers;
-    let halt = cpu.halt;
-    let halted = is_halted(halt);
-    let clear = regs.f % 16 == 0;
+    let halted = is_halted(cpu.halt);
+    let clear = cpu.registers.f % 16 == 0;
     !cpu.stopped & !cpu.hdma & !halted & !cpu.ime & !cpu.latch & clear
 }
 
-// RET, RETI, or RET cc whose condition holds.
+// RET, RETI, or RET cc whose condition holds. No arm has a range: the proof of the last one reads the single numbers off the others.
+#[tactic(auto, unfolding(opcodes::specs::Instruction::decode, instruction::specs::Holding::check_cond))]
 fn is_return(opcode: u8, f: u8) -> bool
     ensures { result ≡ returns (decode opcode) f }
 {
@@ -52,6 +46,5 @@ pub fn returns(cpu: Cpu, mem: &[u8]) -> bool
     ensures { result ≡ takes_return plain cpu mem.now }
 {
     let regs = cpu.registers;
-    let at = regs.pc;
-    is_return(byte(mem, at), regs.f)
+    is_return(byte(mem, regs.pc), regs.f)
 }

@@ -1,13 +1,13 @@
 // A run that is watched in a window: which addresses start an instruction, what the next step writes, and why the watch ends.
+// State, memory and marks are parameters of their own, as in `run` and `screen`, whose are those of the C calls.
 #![tactic(auto)]
 
 ghost use Rattle.std.specs.Prelude.{◌≡◌};
 ghost use Rattle.watch.specs.Reasons.{watch_on, watch_answer};
 
-use crate::reasons::{Why, by_accesses, why_of};
+use crate::reasons::{Why, Window, why_of};
 use crate::starts::strays;
 use crate::written::{interrupts, next_writes};
-use outcome::LastOutcome;
 use run::{Ran, run};
 use sm83::{Addr, Cpu, MCycles};
 
@@ -18,9 +18,10 @@ pub mod reasons;
 pub mod starts;
 pub mod written;
 
+// Why the watch ends, if it does, and what the step did.
 #[derive(Clone, Copy)]
 pub struct Watched {
-    pub why: Why,
+    pub why: Option<Why>,
     pub ran: Ran,
 }
 
@@ -32,23 +33,24 @@ pub fn watch(cpu: Cpu, mem: &mut [u8], first: Addr, marks: &[u8]) -> Watched
     let astray = strays(first, marks, cpu);
     if astray {
         let nothing = Ran {
-            last: LastOutcome::NothingRun,
-            cpu: cpu,
+            last: None,
+            cpu,
             steps: 0,
             cycles: MCycles(0),
         };
         return Watched {
-            why: Why::Strays,
+            why: Some(Why::Strays),
             ran: nothing,
         };
     }
-    let n = marks.len();
+    let window = Window {
+        first,
+        length: marks.len(),
+    };
     let written = next_writes(cpu, mem);
     let interrupted = interrupts(cpu, mem);
-    let rest = by_accesses(first, n, interrupted, written);
+    let rest = window.by_accesses(interrupted, written);
     let ran = run(cpu, mem, 1);
-    let last = ran.last;
-    let after = ran.cpu;
-    let why = why_of(last, after, rest);
-    Watched { why: why, ran: ran }
+    let why = why_of(ran.last, ran.cpu, rest);
+    Watched { why, ran }
 }

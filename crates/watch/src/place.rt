@@ -1,22 +1,21 @@
 // Where an instruction writes, by its opcode byte, and the addresses that it comes to.
-ghost use Rattle.std.specs.Prelude.{◌≡◌, [], ◌∷◌, if◌then◌else◌};
+ghost use Rattle.std.specs.Prelude.{◌≡◌};
 ghost use Rattle.sm83.specs.Basics.{word, next};
 ghost use Rattle.opcodes.specs.Instruction.{decode, decode_cb};
 ghost use Rattle.definition.specs.Bus.{byte_at};
-ghost use Rattle.definition.specs.Execution.{high};
 ghost use Rattle.watch.specs.Places.{place_of, writes_hl, pushed_from, addresses_at};
 ghost use Rattle.watch.specs.Written.{addresses_of};
 
 use crate::written::Written;
+use bus::access::high;
 use instruction::Condition;
 use instruction::conditions::check_cond;
-use map::byte::byte;
+use screen::memory::byte;
 use sm83::registers::pair;
 use sm83::{Addr, CpuRegisters};
 
 #[derive(Clone, Copy)]
 pub enum Place {
-    Nowhere,
     AtBC,
     AtDE,
     AtHL,
@@ -32,51 +31,46 @@ pub enum Place {
     AfterCB,
 }
 
-// No arm has a range: its proof reads the single numbers off the arms.
-pub fn place_of(opcode: u8) -> Place
+// No arm has a range: the proof of the last one reads the single numbers off the others.
+#[tactic(auto, unfolding(opcodes::specs::Instruction::decode))]
+pub fn place_of(opcode: u8) -> Option<Place>
     ensures { result ≡ place_of (decode opcode) }
 {
     match opcode {
         // LD [r16],A
-        0x02 => Place::AtBC,
-        0x12 => Place::AtDE,
+        0x02 => Some(Place::AtBC),
+        0x12 => Some(Place::AtDE),
         // LD [HL+],A, LD [HL-],A; INC [HL], LD [HL],n8; DEC [HL]
-        0x22 | 0x32 => Place::AtHL,
-        0x34 | 0x36 => Place::AtHL,
-        0x35 => Place::AtHL,
+        0x22 | 0x32 => Some(Place::AtHL),
+        0x34 | 0x36 => Some(Place::AtHL),
+        0x35 => Some(Place::AtHL),
         // LD [HL],r8: B, D, H, and C, E, L, A
-        0x70 | 0x72 | 0x74 => Place::AtHL,
-        0x71 | 0x73 | 0x75 | 0x77 => Place::AtHL,
-        0xea => Place::AtWord,
-        0x08 => Place::AtTwo,
-        0xe0 => Place::AtHigh,
-        0xe2 => Place::AtHighC,
+        0x70 | 0x72 | 0x74 => Some(Place::AtHL),
+        0x71 | 0x73 | 0x75 | 0x77 => Some(Place::AtHL),
+        0xea => Some(Place::AtWord),
+        0x08 => Some(Place::AtTwo),
+        0xe0 => Some(Place::AtHigh),
+        0xe2 => Some(Place::AtHighC),
         // PUSH; RST; CALL
-        0xc5 | 0xd5 | 0xe5 | 0xf5 => Place::Pushed(Condition::Unconditional),
-        0xc7 | 0xd7 | 0xe7 | 0xf7 => Place::Pushed(Condition::Unconditional),
-        0xcf | 0xdf | 0xef | 0xff => Place::Pushed(Condition::Unconditional),
-        0xcd => Place::Pushed(Condition::Unconditional),
-        0xc4 => Place::Pushed(Condition::NZ),
-        0xcc => Place::Pushed(Condition::Z),
-        0xd4 => Place::Pushed(Condition::NC),
-        0xdc => Place::Pushed(Condition::C),
-        0xcb => Place::AfterCB,
-        _ => Place::Nowhere,
+        0xc5 | 0xd5 | 0xe5 | 0xf5 => Some(Place::Pushed(Condition::Unconditional)),
+        0xc7 | 0xd7 | 0xe7 | 0xf7 => Some(Place::Pushed(Condition::Unconditional)),
+        0xcf | 0xdf | 0xef | 0xff => Some(Place::Pushed(Condition::Unconditional)),
+        0xcd => Some(Place::Pushed(Condition::Unconditional)),
+        0xc4 => Some(Place::Pushed(Condition::NZ)),
+        0xcc => Some(Place::Pushed(Condition::Z)),
+        0xd4 => Some(Place::Pushed(Condition::NC)),
+        0xdc => Some(Place::Pushed(Condition::C)),
+        0xcb => Some(Place::AfterCB),
+        _ => None,
     }
 }
 
 // After CB: each on [HL] but BIT, which is 40 to 7F.
+#[tactic(auto, using(crate::proofs::place::Addresses::on_hl))]
 fn writes_hl(b: u8) -> bool
     ensures { result ≡ writes_hl (decode_cb b) }
 {
     (b % 8 == 6) & ((b < 0x40) | (0x7f < b))
-}
-
-// "LDH": an address from FF00 on.
-fn high(n: u8) -> Addr
-    ensures { result.0 ≡ high n }
-{
-    Addr(0xff00 + (n as u16))
 }
 
 pub fn pushed(sp: Addr) -> Written
@@ -87,23 +81,7 @@ pub fn pushed(sp: Addr) -> Written
     Written::Two(upper, lower)
 }
 
-fn pushed_if(on: bool, sp: Addr) -> Written
-    ensures { addresses_of result ≡ (if on then pushed_from sp.0 else []) }
-{
-    if on { pushed(sp) } else { Written::Nothing }
-}
-
-fn one_if(on: bool, a: Addr) -> Written
-    ensures { addresses_of result ≡ (if on then a.0 ∷ [] else []) }
-{
-    if on {
-        Written::One(a)
-    } else {
-        Written::Nothing
-    }
-}
-
-// n16, low byte first.
+// n16, low byte first. A JP's is read behind its opcode; here PC may stand at the opcode, with HaltBug.
 fn word_at(mem: &[u8], at: Addr) -> Addr
     ensures { result.0 ≡ word (byte_at mem.now (next at.0)) (byte_at mem.now at.0) }
 {
@@ -113,24 +91,23 @@ fn word_at(mem: &[u8], at: Addr) -> Addr
 }
 
 // From the registers after the fetch.
-pub fn writes_at(place: Place, regs: CpuRegisters, mem: &[u8]) -> Written
+#[tactic(auto, unfolding(crate::specs::Places::addresses_at))]
+pub fn writes_at(place: Option<Place>, regs: CpuRegisters, mem: &[u8]) -> Written
     ensures { addresses_of result ≡ addresses_at place regs mem.now }
 {
-    let at = regs.pc;
-    let sp = regs.sp;
-    let low = byte(mem, at);
-    let word = word_at(mem, at);
+    let low = byte(mem, regs.pc);
+    let word = word_at(mem, regs.pc);
     let hl = Addr(regs.reg_hl_read());
     match place {
-        Place::Nowhere => Written::Nothing,
-        Place::AtBC => Written::One(Addr(regs.reg_bc_read())),
-        Place::AtDE => Written::One(Addr(regs.reg_de_read())),
-        Place::AtHL => Written::One(hl),
-        Place::AtWord => Written::One(word),
-        Place::AtTwo => Written::Two(word, word.wrapping_add(1)),
-        Place::AtHigh => Written::One(high(low)),
-        Place::AtHighC => Written::One(high(regs.c)),
-        Place::Pushed(condition) => pushed_if(check_cond(condition, regs.f), sp),
-        Place::AfterCB => one_if(writes_hl(low), hl),
+        Some(Place::AtBC) => Written::One(Addr(regs.reg_bc_read())),
+        Some(Place::AtDE) => Written::One(Addr(regs.reg_de_read())),
+        Some(Place::AtHL) => Written::One(hl),
+        Some(Place::AtWord) => Written::One(word),
+        Some(Place::AtTwo) => Written::Two(word, word.wrapping_add(1)),
+        Some(Place::AtHigh) => Written::One(high(low)),
+        Some(Place::AtHighC) => Written::One(high(regs.c)),
+        Some(Place::Pushed(condition)) if check_cond(condition, regs.f) => pushed(regs.sp),
+        Some(Place::AfterCB) if writes_hl(low) => Written::One(hl),
+        _ => Written::Nothing,
     }
 }

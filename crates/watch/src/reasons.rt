@@ -1,19 +1,17 @@
 // Why a watch ends.
-ghost use Rattle.std.specs.Prelude.{◌≡◌, if◌then◌else◌};
+ghost use Rattle.std.specs.Prelude.{◌≡◌, if◌then◌else◌, Some};
 ghost use Rattle.routine.specs.Trace.{in_window};
 ghost use Rattle.watch.specs.Written.{addresses_of};
 ghost use Rattle.watch.specs.Reasons.{first_inside, by_outcome, by_state, by_last};
-ghost use Rattle.watch.specs.declared.reasons.Why.TheVariants.{Writes, Interrupted};
+ghost use Rattle.watch.specs.declared.reasons.Why.TheVariants.{Interrupted};
 
 use crate::demanded::is_halted;
 use crate::written::Written;
-use outcome::{LastOutcome, Outcome};
+use outcome::Outcome;
 use sm83::{Addr, Cpu};
 
 #[derive(Clone, Copy)]
 pub enum Why {
-    // the watch goes on
-    Stays,
     // PC is no marked start of the window
     Strays,
     Refused,
@@ -24,82 +22,78 @@ pub enum Why {
     Writes(Addr),
 }
 
-fn is_inside(first: Addr, n: usize, a: Addr) -> bool
-    ensures { result ≡ in_window first.0 n a.0 }
-{
-    if a.0 < first.0 {
-        return false;
+// A window by its first address and its length.
+#[derive(Clone, Copy)]
+pub(crate) struct Window {
+    pub(crate) first: Addr,
+    pub(crate) length: usize,
+}
+
+impl Window {
+    fn holds(self, a: Addr) -> bool
+        ensures { result ≡ in_window self.first.0 self.length a.0 }
+    {
+        if a.0 < self.first.0 {
+            return false;
+        }
+        let i = (a.0 - self.first.0) as usize;
+        i < self.length
     }
-    let i = (a.0 - first.0) as usize;
-    i < n
-}
 
-fn writes_if(inside: bool, a: Addr, rest: Why) -> Why
-    ensures { result ≡ (if inside then Writes a else rest) }
-{
-    if inside { Why::Writes(a) } else { rest }
-}
-
-// The first address written that lies in the window.
-fn first_inside(first: Addr, n: usize, written: Written) -> Why
-    ensures { result ≡ first_inside first.0 n (addresses_of written) }
-{
-    match written {
-        Written::Nothing => Why::Stays,
-        Written::One(a) => writes_if(is_inside(first, n, a), a, Why::Stays),
-        Written::Two(a, b) => {
-            let second = writes_if(is_inside(first, n, b), b, Why::Stays);
-            writes_if(is_inside(first, n, a), a, second)
+    // The first address written that lies in the window.
+    fn first_inside(self, written: Written) -> Option<Why>
+        ensures { result ≡ first_inside self.first.0 self.length (addresses_of written) }
+    {
+        match written {
+            Written::One(a) | Written::Two(a, _) if self.holds(a) => Some(Why::Writes(a)),
+            Written::Two(_, b) if self.holds(b) => Some(Why::Writes(b)),
+            _ => None,
         }
     }
-}
 
-pub(crate) fn by_accesses(first: Addr, n: usize, interrupted: bool, written: Written) -> Why
-    ensures { result ≡ (if interrupted then Interrupted else first_inside first.0 n (addresses_of written)) }
-{
-    if interrupted {
-        return Why::Interrupted;
+    pub(crate) fn by_accesses(self, interrupted: bool, written: Written) -> Option<Why>
+        ensures { result ≡ (if interrupted then Some Interrupted else first_inside self.first.0 self.length (addresses_of written)) }
+    {
+        if interrupted {
+            return Some(Why::Interrupted);
+        }
+        self.first_inside(written)
     }
-    first_inside(first, n, written)
 }
 
-fn by_state(cpu: Cpu, rest: Why) -> Why
+fn by_state(cpu: Cpu, rest: Option<Why>) -> Option<Why>
     ensures { result ≡ by_state cpu rest }
 {
     let stopped = cpu.stopped;
-    let halt = cpu.halt;
-    let halted = is_halted(halt);
+    let halted = is_halted(cpu.halt);
     if stopped {
-        Why::Stops
+        Some(Why::Stops)
     } else if halted {
-        Why::Halts
+        Some(Why::Halts)
     } else {
         rest
     }
 }
 
-fn by_outcome(outcome: Outcome, rest: Why) -> Why
+fn by_outcome(outcome: Outcome, rest: Option<Why>) -> Option<Why>
     ensures { result ≡ by_outcome outcome rest }
 {
     match outcome {
-        Outcome::Normal => rest,
-        Outcome::InfiniteLoop => rest,
-        Outcome::Halting => Why::Halts,
-        Outcome::RunningHDMA => Why::Stops,
-        Outcome::Stopped => Why::Stops,
-        Outcome::RunningInterrupt(_) => Why::Interrupted,
-        Outcome::Breakpoint(_) => rest,
-        Outcome::Refused(_) => Why::Refused,
+        Outcome::Normal | Outcome::InfiniteLoop | Outcome::Breakpoint(_) => rest,
+        Outcome::Halting => Some(Why::Halts),
+        Outcome::RunningHDMA | Outcome::Stopped => Some(Why::Stops),
+        Outcome::RunningInterrupt(_) => Some(Why::Interrupted),
+        Outcome::Refused(_) => Some(Why::Refused),
     }
 }
 
 // By the outcome and the state left of a run of one step, or else as the rest says.
-pub(crate) fn why_of(last: LastOutcome, after: Cpu, rest: Why) -> Why
+pub(crate) fn why_of(last: Option<Outcome>, after: Cpu, rest: Option<Why>) -> Option<Why>
     ensures { result ≡ by_last last (by_state after rest) }
 {
     let here = by_state(after, rest);
     match last {
-        LastOutcome::NothingRun => here,
-        LastOutcome::Last(outcome) => by_outcome(outcome, here),
+        None => here,
+        Some(outcome) => by_outcome(outcome, here),
     }
 }

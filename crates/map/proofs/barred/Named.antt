@@ -1,24 +1,16 @@
 -- An instruction is allowed exactly when the screen does not forbid it: refusal 7 has a name for each that it refuses, and for no other.
+use Rattle.std.proofs.Common.{Option, Some, None}
 use mathlib.Core.Path.{◌≡◌, refl}
 use mathlib.Core.Bool.{Bool, true, false, not}
-use Prim.Native.Nat.{ℕ}
 use Rattle.opcodes.specs.Instruction.{Jump, JP-n16, JP-HL, JR-e8, CALL-n16, RET, RETI, JP-cc-n16, JR-cc-e8, CALL-cc-n16, RET-cc, RST-vec}
-use Rattle.opcodes.specs.Instruction.{Instruction, does, goes, CB-prefix, HALT, STOP, EI, LD-B-B, ILLEGAL, decode}
+use Rattle.opcodes.specs.Instruction.{Instruction, does, goes, CB-prefix, HALT, STOP, EI, LD-B-B, ILLEGAL}
 use Rattle.routine.specs.Flow.{class_of, is_forbidden}
 use Rattle.map.specs.declared.barred.Barred.{Barred}
-use Rattle.map.specs.declared.barred.Barred.TheVariants.{Allowed, Illegal, Stop, Halt, Ei, Reti, JpHl, Call, Rst}
 use Rattle.map.specs.Barred.{barred_of}
 
-abbrev pub is_allowed : Barred → Bool
-is_allowed Allowed = true
-is_allowed Illegal = false
-is_allowed Stop = false
-is_allowed Halt = false
-is_allowed Ei = false
-is_allowed Reti = false
-is_allowed JpHl = false
-is_allowed Call = false
-is_allowed Rst = false
+abbrev pub is_allowed : Option Barred → Bool
+is_allowed None = true
+is_allowed (Some b) = false
 
 jump : (j : Jump) → is_allowed (barred_of (goes j)) ≡ not (is_forbidden (class_of (goes j)))
 jump JP-n16 = refl
@@ -42,7 +34,3 @@ named STOP = refl
 named EI = refl
 named LD-B-B = refl
 named ILLEGAL = refl
-
--- for every byte
-pub byte_named : (b : ℕ) → is_allowed (barred_of (decode b)) ≡ not (is_forbidden (class_of (decode b)))
-byte_named b = named (decode b)

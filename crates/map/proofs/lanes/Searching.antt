@@ -1,63 +1,46 @@
--- The search one arrow and one lane at a time; and that a lane that is found holds no arrow that shares a row with the new one.
-use mathlib.Core.Path.{◌≡◌, refl, sym, ap, ◌∙◌}
-use mathlib.Core.Bool.{Bool, true, false, not, ◌||◌}
-use Prim.Native.Nat.{ℕ, zero, suc, ◌+◌, ◌-◌, ◌≤◌, ◌<◌}
-use native.Mathlib.Numerals.{add-one}
-use native.Mathlib.Omega.{arith}
-use Rattle.map.specs.Lanes.{some_below, lowest_free}
-
-module _ (p : ℕ → Bool) where
-  pub none_yet : some_below p 0 ≡ false
-  unfolding some_below
-  none_yet = refl
-
-  pub one_more : (k : ℕ) (so_far here : Bool) → so_far ≡ some_below p k → here ≡ p k → so_far || here ≡ some_below p (k + 1)
-  unfolding some_below
-  one_more k so_far here e f = rw (add-one, ← e, ← f)
-
-is_free : (b : Bool) → not b ≡ true → b ≡ false
-is_free true e = sym e
-is_free false e = refl
-
-is_not : (b : Bool) → not b ≡ false → b ≡ true
-is_not true e = refl
-is_not false e = sym e
+-- The search one lane at a time; and that a lane that is found holds no arrow that shares a row with the new one.
+use Rattle.std.proofs.Common.{◌≡◌, ℕ, zero, suc, ◌+◌, ◌≤◌, ◌<◌, Bool, true, false, Option, Some, None, MatchOption, refl, sym, ap, ◌∙◌, arith}
+use native.Mathlib.Decide.{ℕ_discrete}
+use Rattle.map.specs.Lanes.{lowest_free}
 
 module _ (taken : ℕ → Bool) where
-  pub from_first : (count : ℕ) → lowest_free taken 0 count ≡ lowest_free taken 0 (count - 0)
-  from_first count = ap (lowest_free taken 0) (omega arith)
-
-  pub none_left : (lane count : ℕ) → count ≤ lane → lowest_free taken lane (count - lane) ≡ lane
-  unfolding lowest_free
-  none_left lane count done =
-      let none : count - lane ≡ 0 = omega arith in
-      rw none
-
-  module _ (lane count : ℕ) (more : lane < count) (b : Bool) (told : b ≡ taken lane) where
-    here_is : count - lane ≡ suc (count - (lane + 1))
-    here_is = omega arith
-
-    pub free_here : not b ≡ true → lowest_free taken lane (count - lane) ≡ lane
-    unfolding lowest_free
-    free_here free = rw (here_is, ← told, is_free b free)
-
-    pub taken_here : not b ≡ false → lowest_free taken lane (count - lane) ≡ lowest_free taken (lane + 1) (count - (lane + 1))
-    unfolding lowest_free
-    taken_here not-Free =
-        let next : suc lane ≡ lane + 1 = omega arith in
-        rw (here_is, ← told, is_not b not-Free, next)
-
   -- what is found is free: two arrows that share a row never share a lane
-  pub found_is_free : (lane n : ℕ) → lowest_free taken lane n < lane + n → taken (lowest_free taken lane n) ≡ false
+  pub found_is_free : (k n found : ℕ) → lowest_free taken k n ≡ Some found → taken found ≡ false
   unfolding lowest_free
-  found_is_free lane zero low = absurd (omega arith)
-  found_is_free lane (suc n) low = by (taken lane) refl (found_is_free (suc lane) n)
+  found_is_free k zero found e = cc
+  found_is_free k (suc n) found e = by (taken k) refl (found_is_free (suc k) n found)
     where
-      by : (b : Bool) → taken lane ≡ b → (lowest_free taken (suc lane) n < suc lane + n → taken (lowest_free taken (suc lane) n) ≡ false) → taken (lowest_free taken lane (suc n)) ≡ false
-      by true e rest =
-          let same : lowest_free taken lane (suc n) ≡ lowest_free taken (suc lane) n = rw e in
-          let lower : lowest_free taken (suc lane) n < suc lane + n = omega (arith, same, low) in
-          ap taken same ∙ rest lower
-      by false e rest =
-          let same : lowest_free taken lane (suc n) ≡ lane = rw e in
-          ap taken same ∙ e
+      by : (b : Bool) → taken k ≡ b → (lowest_free taken (suc k) n ≡ Some found → taken found ≡ false) → taken found ≡ false
+      by true t rest =
+          let same : lowest_free taken k (suc n) ≡ lowest_free taken (suc k) n = rw t in
+          rest (sym same ∙ e)
+      by false t rest =
+          let same : lowest_free taken k (suc n) ≡ Some k = rw t in
+          let here : k ≡ found = cc in
+          ap taken (sym here) ∙ t
+
+  abbrev Taken : ℕ → ℕ → Type 0
+  Taken k end = (j : ℕ) → k ≤ j → j < end → taken j ≡ true
+
+  none_free : (k n end : ℕ) → end ≡ k + n → Taken k end → None ≡ lowest_free taken k n
+  unfolding lowest_free
+  none_free k zero end e all = refl
+  none_free k (suc n) end e all = rw (all k (omega arith) (omega arith)) (none_free (suc k) n end (omega arith) (λ j low high. all j (omega arith) high))
+
+  one_free : (k n i : ℕ) → k ≤ i → i < k + n → taken i ≡ false → Taken k i → Some i ≡ lowest_free taken k n
+  unfolding lowest_free
+  one_free k zero i low high free before = absurd (omega arith)
+  one_free k (suc n) i low high free before = by (ℕ_discrete k i) (one_free (suc k) n i)
+    where
+      by : Dec (k ≡ i) → (suc k ≤ i → i < suc k + n → taken i ≡ false → Taken (suc k) i → Some i ≡ lowest_free taken (suc k) n) → Some i ≡ lowest_free taken k (suc n)
+      by (yes e) rest =
+          let here : taken k ≡ false = ap taken e ∙ free in
+          rw here (ap Some (sym e))
+      by (no other) rest =
+          let passed : taken k ≡ true = before k (omega arith) (omega arith) in
+          rw passed (rest (omega arith) (omega arith) free (λ j from to. before j (omega arith) to))
+
+  -- as a search over the numbers below an end tells it
+  pub first_free : (count : ℕ) (r : Option ℕ) → MatchOption r (Taken 0 count) (λ i. (0 ≤ i) × (i < count) × (taken i ≡ false) × Taken 0 i) → r ≡ lowest_free taken 0 count
+  first_free count None all = none_free 0 count count (omega arith) all
+  first_free count (Some i) h = one_free 0 count i h.0 (omega (arith, h.1)) h.2 h.3

@@ -1,18 +1,17 @@
 -- The search one address at a time: found here, or as on from the next.
+use Rattle.std.proofs.Common.{Some, None}
 use mathlib.Core.Path.{◌≡◌, ap, ◌∙◌}
 use mathlib.Core.Bool.{Bool, true, false}
 use mathlib.Core.List.{List}
 use Prim.Native.Nat.{ℕ, suc, ◌+◌, ◌-◌, ◌≤◌, ◌<◌}
 use native.Mathlib.Omega.{arith}
 use Rattle.sm83.specs.State.{addr}
-use Rattle.map.specs.declared.passing.Passing.{Passing}
-use Rattle.map.specs.declared.passing.Passing.TheVariants.{Never, UpTo}
 use Rattle.map.specs.Passing.{would_pass, lowest, highest}
 
 module _ (m : List ℕ) (first : ℕ) where
   -- upwards, of the last addresses from `at` on and below `end`
   module _ (at end : ℕ) where
-    pub none_left : end ≤ at → lowest m first at (end - at) ≡ Never
+    pub none_left : end ≤ at → lowest m first at (end - at) ≡ None
     unfolding lowest
     none_left done =
         let none : end - at ≡ 0 = omega arith in
@@ -22,7 +21,7 @@ module _ (m : List ℕ) (first : ℕ) where
       here_is : end - at ≡ suc (end - (at + 1))
       here_is = omega arith
 
-      pub found_here : found ≡ true → lowest m first at (end - at) ≡ UpTo (addr at)
+      pub found_here : found ≡ true → lowest m first at (end - at) ≡ Some (addr at)
       unfolding lowest
       found_here yes-it = rw (here_is, ← told, yes-it)
 
@@ -32,12 +31,9 @@ module _ (m : List ℕ) (first : ℕ) where
           let next : suc at ≡ at + 1 = omega arith in
           rw (here_is, ← told, no-it, next)
 
-  pub up_to : (from end other : ℕ) (answer : Passing) → answer ≡ lowest m first from (end - from) → end ≡ other → answer ≡ lowest m first from (other - from)
-  up_to from end other answer told same = told ∙ ap (λ (j : ℕ). lowest m first from (j - from)) same
-
   -- downwards, of `left` last addresses from the first address on
   module _ (left : ℕ) where
-    pub none_below : left ≡ 0 → highest m first left ≡ Never
+    pub none_below : left ≡ 0 → highest m first left ≡ None
     unfolding highest
     none_below none = rw none
 
@@ -48,7 +44,7 @@ module _ (m : List ℕ) (first : ℕ) where
       at_top : highest m first left ≡ highest m first (suc (left - 1))
       at_top = ap (highest m first) top_is
 
-      pub found_at_top : found ≡ true → highest m first left ≡ UpTo (addr (first + (left - 1)))
+      pub found_at_top : found ≡ true → highest m first left ≡ Some (addr (first + (left - 1)))
       unfolding highest
       found_at_top yes-it = at_top ∙ rw (← told, yes-it)
 

@@ -1,34 +1,26 @@
 -- The walk byte by byte: one byte more leaves the same instruction to hold the byte that is asked for.
-use mathlib.Core.Path.{◌≡◌, refl, sym, ap, ◌∙◌}
+use mathlib.Core.Path.{◌≡◌, refl, ap, ◌∙◌}
 use mathlib.Core.List.{List}
 use Prim.Native.Nat.{ℕ, zero, suc, ◌+◌, ◌-◌, ◌≤◌, ◌<◌}
 use native.Mathlib.Omega.{arith}
+use lib.Dec.{eqb}
+use borrow.Author.Tests.{ne_eqb}
+use Rattle.std.proofs.Common.{if◌then◌else◌}
 use Rattle.definition.specs.Bus.{byte_at}
-use Rattle.opcodes.specs.Instruction.{decode, length_of}
-use Rattle.map.specs.declared.place.Walk.{Walk}
-use Rattle.map.specs.Place.{onward, holder}
+use Rattle.map.specs.Walk.{left_after}
+use Rattle.map.specs.Place.{holder}
 
 module _ (m : List ℕ) (start at : ℕ) where
-  -- the next byte starts an instruction, or belongs to the one before it
-  pub started : (left b size : ℕ) → left ≡ 0 → b ≡ byte_at m at → size ≡ length_of (decode b) → record { start = at; left = size - 1 } ≡ onward m start left at
-  started zero b size e f g = ap {B = Walk} (λ (k : ℕ). record { start = at; left = k }) (omega (arith, g ∙ ap (λ (c : ℕ). length_of (decode c)) f))
-  started (suc k) b size e f g = absurd (omega arith)
-
-  pub belongs : (left : ℕ) → (left ≡ 0 → ⊥) → record { start = start; left = left - 1 } ≡ onward m start left at
-  belongs zero more = absurd (more refl)
-  belongs (suc k) more = ap {B = Walk} (λ (j : ℕ). record { start = start; left = j }) (omega arith)
-
-  -- one byte more
-  one_more : (left n : ℕ) → holder m start left at (suc n) ≡ holder m (onward m start left at).start (onward m start left at).left (suc at) n
+  one_more : (left n : ℕ) → holder m start left at (suc n) ≡ holder m (if eqb left 0 then at else start) (left_after left (byte_at m at)) (suc at) n
   unfolding holder
   one_more zero n = refl
-  one_more (suc k) n = refl
+  one_more (suc k) n = rw (ne_eqb (suc k) 0 (λ e. omega arith))
 
-  pub goes_on : (left target : ℕ) (w : Walk) → w ≡ onward m start left at → at < target → holder m start left at (target - at) ≡ holder m w.start w.left (at + 1) (target - (at + 1))
-  goes_on left target w e more =
+  pub goes_on : (left target to_come begun : ℕ) → to_come ≡ left_after left (byte_at m at) → begun ≡ (if eqb left 0 then at else start) → at < target → holder m start left at (target - at) ≡ holder m begun to_come (at + 1) (target - (at + 1))
+  goes_on left target to_come begun e f more =
       let there : target - at ≡ suc (target - (at + 1)) = omega arith in
       let next : suc at ≡ at + 1 = omega arith in
-      ap (holder m start left at) there ∙ one_more left (target - (at + 1)) ∙ ap (λ (v : Walk). holder m v.start v.left (suc at) (target - (at + 1))) (sym e) ∙ ap (λ (b : ℕ). holder m w.start w.left b (target - (at + 1))) next
+      ap (holder m start left at) there ∙ one_more left (target - (at + 1)) ∙ rw (← e, ← f, next)
 
   -- the byte that is asked for starts an instruction, or is inside the one before it
   pub at_start : (left target : ℕ) → left ≡ 0 → target ≤ at → holder m start left at (target - at) ≡ at

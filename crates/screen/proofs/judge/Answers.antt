@@ -1,29 +1,20 @@
 -- Shows that the walk and the tests after it decide; the marks stay as the walk left them, or are cleared.
-use mathlib.Core.Path.{◌≡◌, ap, ◌∙◌}
-use mathlib.Core.List.{List, ◌∷◌, map}
-use Prim.Native.Nat.{ℕ}
-use lib.ListN.{length, replicate}
-use Rattle.routine.specs.declared.Verdict.{Verdict}
-use Rattle.routine.specs.Screen.{scan_for, first_of, tests, is_marked}
-use Rattle.screen.specs.Parts.{walked, Finds}
-use Rattle.screen.proofs.Whole.{Tested, judged, left_as_walked, left_clear}
+use mathlib.Core.Path.{◌≡◌, refl, ◌∙◌}
+use mathlib.Core.Bool.{true, false}
+use Rattle.std.proofs.Common.{rules}
+use Rattle.std.specs.Prelude.{is_err}
+use Rattle.screen.proofs.Whole.{walk_decides, tests_decide}
 use Rattle.screen.proofs.judge.Goals as goal
 
--- what the walk and the tests after it ensure
-tested : {m : List ℕ} {first n : ℕ} {before found : Verdict} {marks : List ℕ}
-    → Finds walked m first n before marks
-    → found ≡ first_of (before ∷ map (scan_for m (is_marked marks first) first (length marks)) tests) → Tested m first n before found marks
-tested finds found = record { walk_finds = finds; tests_found = found }
+pub returns-in_err-walk : goal.returns-in_err-walk
+returns-in_err-walk c = walk_decides c.walk.ensures c.in_err-walk.was c.from_residual.result (search rules)
 
-pub returns-in-Passes : goal.returns-in-Passes
-returns-in-Passes c =
-    let t : Tested c.args.mem.now c.args.first.0 (length c.args.marks.now) c.walk-walked.result c.after_walk-found.result c.walk-walked.new.marks = tested c.walk-walked.ensures c.after_walk-found.ensures in
-    record { finding = judged t; marks = left_as_walked t c.in-Passes.is }
+pub returns-then-refused : goal.returns-then-refused
+returns-then-refused c =
+    let refused : is_err c.tested-found.result ≡ true = search rules in
+    tests_decide c.walk.ensures c.in_ok-walk.was c.tested-found.result c.tested-found.ensures c.fill.new.self (c.fill.ensures.after (λ y same. same) ∙ rw refused refl)
 
-pub returns-in_default : goal.returns-in_default
-returns-in_default c =
-    let t : Tested c.args.mem.now c.args.first.0 (length c.args.marks.now) c.walk-walked.result c.after_walk-found.result c.walk-walked.new.marks = tested c.walk-walked.ensures c.after_walk-found.ensures in
-    record {
-      finding = judged t;
-      marks = c.clear.ensures ∙ ap (λ (j : ℕ). replicate j 0) c.walk-walked.auto.marks ∙ left_clear c.after_walk-found.result c.args.mem.now c.args.first.0 (length c.args.marks.now) c.in_default.not-Passes;
-    }
+pub returns-else-refused : goal.returns-else-refused
+returns-else-refused c =
+    let passes : is_err c.tested-found.result ≡ false = search rules in
+    tests_decide c.walk.ensures c.in_ok-walk.was c.tested-found.result c.tested-found.ensures c.walk.new.marks (rw passes refl)

@@ -1,6 +1,6 @@
 -- Of one window any pair of answers that meet the contract of `walk`, as the source states it, is identical, with every mark, also where it refuses.
 use mathlib.Core.Path.{◌≡◌, sym, ◌∙◌}
-use Rattle.routine.specs.declared.Verdict.{Verdict}
+use Rattle.routine.specs.Verdict.{Verdict}
 use Rattle.screen.proofs.walk.walk.Reads.{Post}
 
 -- of one input: two answers, and the arguments as the two calls leave them, of which the last is the marks

@@ -7,7 +7,7 @@ use native.Mathlib.Omega.{arith}
 use lib.ListN.{length, take, drop, set, replicate, length-set, replicate-append-replicate}
 use lib.Seq.{set_at, take-add, drop-drop, take_all, length-take-le}
 use Rattle.routine.specs.declared.ScreenRefusal.TheVariants.{ForbiddenOpcode, PastTheEnd}
-use Rattle.routine.specs.declared.Verdict.TheVariants.{Passes}
+use Rattle.std.specs.Prelude.{Ok}
 use Rattle.opcodes.specs.Instruction.{operands}
 use Rattle.routine.specs.Flow.{class_at, instruction_at, is_forbidden}
 use Rattle.routine.specs.Screen.{refused_at, walk, marks_from, marks_of}
@@ -85,7 +85,7 @@ module _ (m : List ℕ) (first n : ℕ) where
               ∙ ap (λ (l : List ℕ). take at whole ++ 1 ∷ l) (replicate-append-replicate ops left 0)
 
   -- neither applies at any start
-  pub ended : {at : ℕ} {marks : List ℕ} → Reached at marks → n ≤ at → Finds walked m first n Passes marks
+  pub ended : {at : ℕ} {marks : List ℕ} → Reached at marks → n ≤ at → Finds walked m first n (Ok tt) marks
   unfolding walk
   ended {at} {marks} r done =
       record {

@@ -7,7 +7,9 @@ use native.Mathlib.Omega.{arith}
 use lib.ListN.{length, replicate, set}
 use Rattle.sm83.specs.declared.Addr.{Addr}
 use Rattle.routine.specs.declared.ScreenRefusal.TheVariants.{ForbiddenOpcode, PastTheEnd}
-use Rattle.routine.specs.declared.Verdict.TheVariants.{RefusedAt}
+use Rattle.std.specs.Prelude.{Err}
+use Rattle.routine.specs.Verdict.{Verdict}
+use Rattle.routine.specs.declared.Finding.TheVariants.{At}
 use Rattle.sm83.specs.State.{addr}
 use Rattle.routine.specs.Flow.{class_at, instruction_at, is_forbidden}
 use Rattle.screen.specs.declared.class.Shape.{Shape}
@@ -34,19 +36,16 @@ module _ {m : List ℕ} {first n at : ℕ} {marks : List ℕ} {here : Addr} {s :
   is_forbidden_lem : is_forbidden (class_at m (first + at)) ≡ forbidden
   is_forbidden_lem = sym (turn.told ∙ ap (λ (t : Shape). is_forbidden t.1) shape_there)
 
-  pub some_length : 0 < s.0
-  some_length = omega (arith, length_there)
-
   -- a finding leaves the marks all 0
   cleared : {left : List ℕ} → left ≡ replicate (length marks) 0 → left ≡ replicate n 0
   cleared clear = clear ∙ ap (λ (j : ℕ). replicate j 0) turn.reached.kept
 
-  pub turn_7 : forbidden ≡ true → {left : List ℕ} → left ≡ replicate (length marks) 0 → Finds walked m first n (RefusedAt ForbiddenOpcode here) left
-  turn_7 bad clear = record { finding = ap (RefusedAt ForbiddenOpcode) turn.there ∙ sym (found_7 m first n turn.reached turn.more (is_forbidden_lem ∙ bad)); marks = cleared clear }
+  pub turn_7 : forbidden ≡ true → {left : List ℕ} → left ≡ replicate (length marks) 0 → Finds walked m first n (Err (At ForbiddenOpcode here)) left
+  turn_7 bad clear = record { finding = ap {B = Verdict} (λ (h : Addr). Err (At ForbiddenOpcode h)) turn.there ∙ sym (found_7 m first n turn.reached turn.more (is_forbidden_lem ∙ bad)); marks = cleared clear }
 
   module _ (ok : forbidden ≡ false) where
-    pub turn_8 : n - at < s.0 → {left : List ℕ} → left ≡ replicate (length marks) 0 → Finds walked m first n (RefusedAt PastTheEnd here) left
-    turn_8 far clear = record { finding = ap (RefusedAt PastTheEnd) turn.there ∙ sym (found_8 m first n turn.reached turn.more (is_forbidden_lem ∙ ok) (omega (arith, length_there))); marks = cleared clear }
+    pub turn_8 : n - at < s.0 → {left : List ℕ} → left ≡ replicate (length marks) 0 → Finds walked m first n (Err (At PastTheEnd here)) left
+    turn_8 far clear = record { finding = ap {B = Verdict} (λ (h : Addr). Err (At PastTheEnd h)) turn.there ∙ sym (found_8 m first n turn.reached turn.more (is_forbidden_lem ∙ ok) (omega (arith, length_there))); marks = cleared clear }
 
     pub turn_on : s.0 ≤ n - at → Reached m first n (at + s.0) (set marks at 1)
     turn_on fits =

@@ -1,4 +1,4 @@
--- Which course a step takes, by the answers to its questions.
+-- Whether an interrupt is pending, and the registers after the fetch.
 use Rattle.std.proofs.Common.{if◌then◌else◌}
 use mathlib.Core.Path.{◌≡◌, refl, sym, ap, ap₂, ◌∙◌}
 use mathlib.Core.Bool.{Bool, true, false, not, ◌&&◌, ◌||◌}
@@ -38,21 +38,3 @@ kept_there s bug e t = sym (ap (λ (t : Cpu). t.registers) (if_so _ _ (sym e ∙
 pub moved_on : (s : Cpu) (bug : Bool) (p : ℕ) → bug ≡ is_bug s.halt → bug ≡ false → p ≡ next (pc s) → write_pc p s.registers ≡ (fetched s).registers
 unfolding fetched
 moved_on s bug p e f h = ap (λ (a : ℕ). write_pc a s.registers) h ∙ sym (ap (λ (t : Cpu). t.registers) (if_not _ _ (sym e ∙ f)))
-
--- with what the code asked: whether the state is asleep, and whether an interrupt is pending
-module _ (s : Cpu) (m : List ℕ) (asleep waiting : Bool) (e : asleep ≡ is_asleep s.halt) (f : waiting ≡ is_pending (pending m)) where
-  abbrev pub goes : Bool
-  goes = eqb (length m) 65536 && eqb (flags s % 16) 0 && not s.stopped && not s.hdma && (not asleep || waiting)
-
-  by_tests : (if goes then (if s.ime && waiting then Dispatches else Executes) else Rests) ≡ course_of s m
-  unfolding course_of
-  by_tests = simp (e, f)
-
-  pub dispatches : goes ≡ true → (s.ime && waiting) ≡ true → Dispatches ≡ course_of s m
-  dispatches g i = sym (if_so _ _ g ∙ if_so _ _ i) ∙ by_tests
-
-  pub executes : goes ≡ true → (s.ime && waiting) ≡ false → Executes ≡ course_of s m
-  executes g i = sym (if_so _ _ g ∙ if_not _ _ i) ∙ by_tests
-
-  pub rests : goes ≡ false → Rests ≡ course_of s m
-  rests g = sym (if_not _ _ g) ∙ by_tests

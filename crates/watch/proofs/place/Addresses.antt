@@ -1,4 +1,4 @@
--- Small laws of the addresses that an instruction writes.
+-- Which bytes after CB write to HL.
 use mathlib.Core.Path.{◌≡◌, refl, ap, ap₂, ◌∙◌}
 use mathlib.Core.Bool.{◌&&◌, ◌||◌}
 use mathlib.Core.List.{List, [], ◌∷◌}
@@ -14,12 +14,3 @@ use Rattle.watch.specs.Places.{writes_hl, pushed_from}
 pub on_hl : (b : ℕ) → b < 256 → eqb (b % 8) 6 && (ltb b 64 || ltb 127 b) ≡ writes_hl (decode_cb b)
 unfolding decode_cb
 on_hl b = agree (λ b. eqb (b % 8) 6 && (ltb b 64 || ltb 127 b)) (λ b. writes_hl (decode_cb b)) 256 refl b
-
-pub one_less : (a b : ℕ) → b ≡ (a + (65536 - 1)) % 65536 → b ≡ back a
-one_less a b e = omega arith
-
-pub two_pushed : (p upper lower : ℕ) → upper ≡ (p + (65536 - 1)) % 65536 → lower ≡ (upper + (65536 - 1)) % 65536 → upper ∷ lower ∷ [] ≡ pushed_from p
-two_pushed p upper lower e f =
-    let u : upper ≡ back p = one_less p upper e in
-    let v : lower ≡ back (back p) = one_less upper lower f ∙ ap back u in
-    ap₂ {C = List ℕ} (λ (a b : ℕ). a ∷ b ∷ []) u v

@@ -1,8 +1,8 @@
 -- What a step writes, by its course: for every state and every memory.
 use Rattle.std.proofs.Common.{if◌then◌else◌}
-use mathlib.Core.Path.{◌≡◌, refl, sym, subst, ◌∙◌}
+use mathlib.Core.Path.{◌≡◌, refl, sym, ap, subst, ◌∙◌}
 use mathlib.Core.Bool.{Bool, true, false, not, ◌&&◌, ◌||◌}
-use mathlib.Core.List.{List}
+use mathlib.Core.List.{List, []}
 use Prim.Native.Nat.{ℕ, ◌%◌}
 use lib.Dec.{eqb, T}
 use lib.ListN.{length}
@@ -11,7 +11,7 @@ use Rattle.sm83.specs.declared.CpuRegisters.{CpuRegisters}
 use Rattle.sm83.specs.declared.HaltMode.{HaltMode}
 use Rattle.sm83.specs.declared.HaltMode.TheVariants.{NotHalting, HaltRunInterrupt, HaltNoRunInterrupt, HaltBug}
 use Rattle.sm83.specs.Basics.{next}
-use Rattle.sm83.specs.State.{pc, flags, set_ime, set_latch, set_halt, set_pc}
+use Rattle.sm83.specs.State.{pc, sp, flags, set_ime, set_latch, set_halt, set_pc}
 use Rattle.outcome.specs.Interrupts.{is_pending}
 use Rattle.opcodes.specs.Instruction.{decode}
 use Rattle.opcodes.proofs.Choices.{by_cases}
@@ -23,7 +23,7 @@ use Rattle.definition.proofs.Course.{point1, point2, point3, point4, points5to7,
 use Rattle.routine.specs.Trace.{takes_none}
 use Rattle.watch.specs.declared.course.Course.{Course}
 use Rattle.watch.specs.declared.course.Course.TheVariants.{Rests, Dispatches, Executes}
-use Rattle.watch.specs.Places.{place_of, addresses_at}
+use Rattle.watch.specs.Places.{place_of, pushed_from, addresses_at}
 use Rattle.watch.specs.Written.{written_by, course_of, instruction_writes, writes_by, interrupts_by}
 use Rattle.watch.proofs.written.Executed.{Wrote, accesses_of, same, execute_writes}
 
@@ -116,6 +116,22 @@ module _ (s : Cpu) (m : List ℕ) where
   pub step_came : Came s m (course_of s m) (step_on plain s m).accesses
   step_came = by_cases (eqb (length m) 65536) (λ whole. by_cases (eqb (flags s % 16) 0) (accepted_step whole) (low_bits whole)) wrong_length
 
-  -- with the course that the code found
-  pub by_course : {c d : Course} → c ≡ course_of s m → c ≡ d → Came s m d (step_on plain s m).accesses
+  -- by the course that the code found
+  by_course : {c d : Course} → c ≡ course_of s m → c ≡ d → Came s m d (step_on plain s m).accesses
   by_course e f = subst (λ (x : Course). Came s m x (step_on plain s m).accesses) (sym e ∙ f) step_came
+
+  pub rests : {c : Course} → c ≡ course_of s m → c ≡ Rests → [] ≡ written_by (step_on plain s m).accesses
+  rests e f = sym (by_course e f).writes
+
+  pub dispatches : {c : Course} → c ≡ course_of s m → c ≡ Dispatches → pushed_from (sp s) ≡ written_by (step_on plain s m).accesses
+  dispatches e f = sym (by_course e f).writes
+
+  pub executes : {c : Course} → c ≡ course_of s m → c ≡ Executes → instruction_writes s m ≡ written_by (step_on plain s m).accesses
+  executes e f = sym (by_course e f).writes
+
+  pub interrupted : not (takes_none (step_on plain s m).accesses) ≡ interrupts_by (course_of s m)
+  interrupted = ap not step_came.takes ∙ twice (interrupts_by (course_of s m))
+    where
+      twice : (b : Bool) → not (not b) ≡ b
+      twice true = refl
+      twice false = refl

@@ -1,14 +1,11 @@
--- Shows that a free lane is found, a taken one is passed over, or none is left.
-use mathlib.Core.Path.{sym, ap, ◌∙◌}
-use mathlib.Core.Bool.{not}
-use Rattle.map.proofs.lanes.Searching.{none_left, free_here, taken_here}
+-- Shows the search over the lanes: each that was passed over is taken, and the one that is found is not.
+use Rattle.std.proofs.Common.{◌≡◌, ℕ, Bool, true, false, rules, tests}
+use Rattle.std.proofs.lemmas.Iterator.{first_from_Range}
+use Rattle.map.specs.Lanes.{is_taken}
+use Rattle.map.proofs.lanes.Searching.{first_free}
 use Rattle.map.proofs.lanes.free_lane.Goals as goal
 
-pub returns-then-not-taken : goal.returns-then-not-taken
-returns-then-not-taken c = sym (c.loop-lane.invariant ∙ free_here _ _ _ c.loop-lane-test.true _ c.is_taken-taken.ensures (ap not c.if-not-taken.true))
-
-pub loop-lane-preserved : goal.loop-lane-preserved
-loop-lane-preserved c = c.loop-lane.invariant ∙ taken_here _ _ _ c.loop-lane-test.true _ c.is_taken-taken.ensures (ap not c.if-not-taken.false)
-
 pub returns : goal.returns
-returns c = sym (c.loop-lane.invariant ∙ none_left _ _ _ c.loop-lane-test.false)
+returns c =
+    let taken : ℕ → Bool = is_taken c.args.arrows.now c.args.rows in
+    first_free taken c.args.count c.find.result (first_from_Range _ _ _ _ (λ i. taken i ≡ false) (λ i. taken i ≡ true) c.find.ensures.ran (λ x q k. search (rules, tests)) (λ x q k. (search rules, search (rules, tests))))

@@ -1,10 +1,7 @@
 -- Shows what the loop keeps: of the addresses that are left the highest is the same as of all.
-use Rattle.std.proofs.Common.{◌≡◌, ◌≤◌}
+use Rattle.std.proofs.Common.{◌≡◌}
 use Rattle.map.specs.Passing.{highest}
 use Rattle.map.proofs.passing.highest.Given as goal
 
 abbrev pub invariant-loop-left : goal.invariant-loop-left
-invariant-loop-left l = (l.left ≤ l.count) × (highest l.mem l.first.0 l.count ≡ highest l.mem l.first.0 l.left)
-
-abbrev pub decreases-loop-left : goal.decreases-loop-left
-decreases-loop-left l = l.left
+invariant-loop-left l = highest l.mem l.first.0 l.count ≡ highest l.mem l.first.0 l.left

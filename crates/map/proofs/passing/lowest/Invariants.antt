@@ -5,6 +5,3 @@ use Rattle.map.proofs.passing.lowest.Given as goal
 
 abbrev pub invariant-loop-at : goal.invariant-loop-at
 invariant-loop-at l = lowest l.mem l.first.0 l.from (l.end - l.from) ≡ lowest l.mem l.first.0 l.at (l.end - l.at)
-
-abbrev pub decreases-loop-at : goal.decreases-loop-at
-decreases-loop-at l = l.end - l.at

@@ -4,7 +4,4 @@ use Rattle.map.specs.Place.{holder}
 use Rattle.map.proofs.place.holder.Given as goal
 
 abbrev pub invariant-loop-at : goal.invariant-loop-at
-invariant-loop-at l = holder l.mem l.first 0 l.first (l.target - l.first) ≡ holder l.mem l.walk.start l.walk.left l.at (l.target - l.at)
-
-abbrev pub decreases-loop-at : goal.decreases-loop-at
-decreases-loop-at l = l.target - l.at
+invariant-loop-at l = holder l.mem l.first 0 l.first (l.target - l.first) ≡ holder l.mem l.start l.walk.left l.at (l.target - l.at)

@@ -4,7 +4,7 @@ use mathlib.Core.List.{List}
 use Prim.Native.Nat.{ℕ}
 use native.Mathlib.Omega.{arith}
 use lib.ListN.{length, replicate}
-use Rattle.routine.specs.declared.Verdict.{Verdict}
+use Rattle.routine.specs.Verdict.{Verdict}
 use Rattle.routine.specs.Screen.{marks_after}
 use Rattle.screen.specs.Parts.{walked, Finds}
 use Rattle.screen.proofs.walk.Reached.{begun, ended}
@@ -16,22 +16,22 @@ sized : {m : List ℕ} {first n k : ℕ} {r : Verdict} {left : List ℕ} → n �
 sized {m} {first} {r = r} e w = record { finding = w.finding ∙ ap (walked m first) e; marks = w.marks ∙ ap (marks_after r m first) e }
 
 pub loop-at-init : goal.loop-at-init
-loop-at-init c = begun c.args.mem.now c.args.first.0 (length c.clear.new.marks) c.clear.new.marks refl (c.clear.ensures ∙ ap (λ (j : ℕ). replicate j 0) (sym c.clear.auto.marks))
+loop-at-init c = begun c.args.mem.now c.args.first.0 (length c.fill.new.self) c.fill.new.self refl (c.fill.ensures.after (λ y same. same) ∙ ap (λ (j : ℕ). replicate j 0) (sym c.fill.ensures.len))
 
 pub returns-then-forbidden : goal.returns-then-forbidden
 returns-then-forbidden c =
-    let turn : Turn c.args.mem.now c.args.first.0 (length c.clear.new.marks) c.loop-at.at c.loop-at.marks c.address-here.result c.shape_at-shape.result c.is_forbidden-forbidden.result = record { reached = c.loop-at.invariant; more = c.loop-at-test.true; there = c.address-here.ensures; read = c.shape_at-shape.ensures; told = c.is_forbidden-forbidden.ensures } in
-    sized c.clear.auto.marks (turn_7 turn c.if-forbidden.true c.clear-then-forbidden.ensures)
+    let turn : Turn c.args.mem.now c.args.first.0 (length c.fill.new.self) c.loop-at.at c.loop-at.marks c.address-here.result c.shape_at-length.result c.is_forbidden-forbidden.result = record { reached = c.loop-at.invariant; more = c.loop-at-test.true; there = c.address-here.ensures; read = c.shape_at-length.ensures; told = c.is_forbidden-forbidden.ensures } in
+    sized c.fill.ensures.len (turn_7 turn c.if-forbidden.true (c.fill-then-forbidden.ensures.after (λ y same. same)))
 
 pub returns-then-too_long : goal.returns-then-too_long
 returns-then-too_long c =
-    let turn : Turn c.args.mem.now c.args.first.0 (length c.clear.new.marks) c.loop-at.at c.loop-at.marks c.address-here.result c.shape_at-shape.result c.is_forbidden-forbidden.result = record { reached = c.loop-at.invariant; more = c.loop-at-test.true; there = c.address-here.ensures; read = c.shape_at-shape.ensures; told = c.is_forbidden-forbidden.ensures } in
-    sized c.clear.auto.marks (turn_8 turn (cc) (omega arith) c.clear-then-too_long.ensures)
+    let turn : Turn c.args.mem.now c.args.first.0 (length c.fill.new.self) c.loop-at.at c.loop-at.marks c.address-here.result c.shape_at-length.result c.is_forbidden-forbidden.result = record { reached = c.loop-at.invariant; more = c.loop-at-test.true; there = c.address-here.ensures; read = c.shape_at-length.ensures; told = c.is_forbidden-forbidden.ensures } in
+    sized c.fill.ensures.len (turn_8 turn (cc) (omega arith) (c.fill-then-too_long.ensures.after (λ y same. same)))
 
 pub loop-at-preserved : goal.loop-at-preserved
 loop-at-preserved c =
-    let turn : Turn c.args.mem.now c.args.first.0 (length c.clear.new.marks) c.loop-at.at c.loop-at.marks c.address-here.result c.shape_at-shape.result c.is_forbidden-forbidden.result = record { reached = c.loop-at.invariant; more = c.loop-at-test.true; there = c.address-here.ensures; read = c.shape_at-shape.ensures; told = c.is_forbidden-forbidden.ensures } in
+    let turn : Turn c.args.mem.now c.args.first.0 (length c.fill.new.self) c.loop-at.at c.loop-at.marks c.address-here.result c.shape_at-length.result c.is_forbidden-forbidden.result = record { reached = c.loop-at.invariant; more = c.loop-at-test.true; there = c.address-here.ensures; read = c.shape_at-length.ensures; told = c.is_forbidden-forbidden.ensures } in
     turn_on turn (cc) (omega arith)
 
 pub returns : goal.returns
-returns c = sized c.clear.auto.marks (ended c.args.mem.now c.args.first.0 (length c.clear.new.marks) c.loop-at.invariant c.loop-at-test.false)
+returns c = sized c.fill.ensures.len (ended c.args.mem.now c.args.first.0 (length c.fill.new.self) c.loop-at.invariant c.loop-at-test.false)

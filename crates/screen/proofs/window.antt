@@ -1,0 +1,2 @@
+-- Laws of a marked window: the scan.
+pub mod Scanning

@@ -1,2 +1,0 @@
--- Laws of why a watch ends.
-pub mod Window
