@@ -1,3 +1,2 @@
--- Laws of the answer block: its stores, and that it reads back.
-pub mod Answered
+-- Laws of the answer block: that it reads back.
 pub mod Standing

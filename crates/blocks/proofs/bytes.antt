@@ -1,3 +1,2 @@
--- Laws of stores: a front that is written over, and what a run of stores leaves.
+-- Laws of a front that is written over.
 pub mod Filled
-pub mod Stores

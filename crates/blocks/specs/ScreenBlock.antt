@@ -4,7 +4,7 @@ use Rattle.sm83.specs.declared.Addr.{Addr}
 use Rattle.sm83.specs.Basics.{bit}
 use Rattle.sm83.specs.State.{addr}
 use Rattle.outcome.specs.Numbers.{Values, no_value, the_interrupt, the_registers, the_address, Said}
-use Rattle.routine.specs.declared.Verdict.{Verdict}
+use Rattle.routine.specs.Verdict.{Verdict}
 use Rattle.routine.specs.Numbers.{verdict_says}
 use Rattle.blocks.specs.Bytes.{word_bytes, filled}
 

@@ -1,13 +1,11 @@
 -- The state block, 24 bytes: 0 A, 1 F, 2 B, 3 C, 4 D, 5 E, 6 H, 7 L, 8-9 SP, 10-11 PC, 12 IME, 13 EI latch, 14 halt mode, 15 stopped,
 -- 16 HDMA running, 17 DMG; 18-23 are reserved, not looked at and not changed.
-use Rattle.std.specs.Prelude.{Bool, ◌&&◌, List, [], ◌∷◌, ◌++◌, ℕ, eqb, length, get_or, if◌then◌else◌}
+use Rattle.std.specs.Prelude.{Bool, ◌&&◌, List, [], ◌∷◌, ◌++◌, ℕ, eqb, length, get_or, Option, Some, None, if◌then◌else◌}
 use Rattle.sm83.specs.declared.Cpu.{Cpu}
 use Rattle.sm83.specs.declared.HaltMode.{HaltMode}
 use Rattle.sm83.specs.declared.HaltMode.TheVariants.{NotHalting, HaltRunInterrupt, HaltNoRunInterrupt, HaltBug}
 use Rattle.sm83.specs.Basics.{bit}
 use Rattle.definition.specs.Bus.{byte_at}
-use Rattle.blocks.specs.declared.state.StateRead.{StateRead}
-use Rattle.blocks.specs.declared.state.StateRead.TheVariants.{State, Malformed}
 use Rattle.blocks.specs.WellFormed.{flags_well_formed}
 use Rattle.blocks.specs.Bytes.{filled}
 use Rattle.blocks.specs.Registers.{register_bytes, registers_at}
@@ -36,12 +34,15 @@ state_bytes s block = filled 24 (state_fields s) block
 abbrev pub well_formed : List ℕ → Bool
 well_formed block = eqb (length block) 24 && flags_well_formed block
 
+abbrev pub is_set : ℕ → Bool
+is_set b = eqb b 1
+
 abbrev pub flag_at : List ℕ → ℕ → Bool
-flag_at block at = eqb (byte_at block at) 1
+flag_at block at = is_set (byte_at block at)
 
 abbrev pub state_in : List ℕ → Cpu
 state_in block =
     record { registers = registers_at block 0; ime = flag_at block 12; latch = flag_at block 13; halt = halt_at (byte_at block 14); stopped = flag_at block 15; hdma = flag_at block 16; dmg = flag_at block 17 }
 
-abbrev pub state_of : List ℕ → StateRead
-state_of block = if well_formed block then State (state_in block) else Malformed
+abbrev pub state_of : List ℕ → Option Cpu
+state_of block = if well_formed block then Some (state_in block) else None

@@ -1,52 +1,38 @@
 // The answer block of a step or a run: 24 bytes.
 ghost use Rattle.std.specs.Prelude.{◌≡◌};
-ghost use Rattle.outcome.specs.Numbers.{outcome_says, last_says};
-ghost use Rattle.blocks.specs.AnswerBlock.{shown, answer_bytes};
+ghost use Rattle.outcome.specs.Numbers.{last_says};
+ghost use Rattle.blocks.specs.AnswerBlock.{shown, answer_fields, answer_bytes};
 
-use crate::bytes::{put_count, put_registers, put_word};
-use outcome::{LastOutcome, Outcome};
+use crate::bytes::{register_bytes, write_front};
+use outcome::{Outcome, last_number};
 use sm83::{CpuRegisters, MCycles};
 
 pub const ANSWER_LENGTH: usize = 24;
 
-fn shown_by(outcome: Outcome) -> CpuRegisters
-    ensures { result ≡ shown (outcome_says outcome).values }
-{
-    match outcome {
-        Outcome::Normal => CpuRegisters::zero(),
-        Outcome::InfiniteLoop => CpuRegisters::zero(),
-        Outcome::Halting => CpuRegisters::zero(),
-        Outcome::RunningHDMA => CpuRegisters::zero(),
-        Outcome::Stopped => CpuRegisters::zero(),
-        Outcome::RunningInterrupt(_) => CpuRegisters::zero(),
-        Outcome::Breakpoint(registers) => registers,
-        Outcome::Refused(_) => CpuRegisters::zero(),
-    }
-}
-
 // The registers that a Breakpoint shows, and every register 0 otherwise.
-fn shown(last: LastOutcome) -> CpuRegisters
+fn shown(last: Option<Outcome>) -> CpuRegisters
     ensures { result ≡ shown (last_says last).values }
 {
     match last {
-        LastOutcome::NothingRun => CpuRegisters::zero(),
-        LastOutcome::Last(outcome) => shown_by(outcome),
+        Some(Outcome::Breakpoint(registers)) => registers,
+        _ => CpuRegisters::zero(),
     }
 }
 
+fn answer_fields(last: Option<Outcome>, steps: u16, cycles: MCycles) -> [u8; ANSWER_LENGTH]
+    ensures { result ≡ answer_fields (last_says last) steps cycles }
+{
+    let mut fields = [0u8; ANSWER_LENGTH];
+    fields[0..2].copy_from_slice(&last_number(last).to_le_bytes());
+    fields[2..4].copy_from_slice(&steps.to_le_bytes());
+    fields[4..8].copy_from_slice(&cycles.0.to_le_bytes());
+    fields[8..20].copy_from_slice(&register_bytes(shown(last)));
+    fields
+}
+
 // A block of any other length is left alone.
-pub fn write_answer(block: &mut [u8], last: LastOutcome, steps: u16, cycles: MCycles)
+pub fn write_answer(block: &mut [u8], last: Option<Outcome>, steps: u16, cycles: MCycles)
     ensures { block.new ≡ answer_bytes last steps cycles block.old }
 {
-    if block.len() != ANSWER_LENGTH {
-        return;
-    }
-    let number = last.number();
-    let registers = shown(last);
-    put_word(block, 0, number);
-    put_word(block, 2, steps);
-    put_count(block, 4, cycles);
-    put_registers(block, 8, registers);
-    put_word(block, 20, 0);
-    put_word(block, 22, 0);
+    write_front(block, ANSWER_LENGTH, &answer_fields(last, steps, cycles));
 }

@@ -5,4 +5,3 @@ pub mod answer;
 pub mod bytes;
 pub mod state;
 pub mod verdicts;
-mod wellformed;

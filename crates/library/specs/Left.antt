@@ -1,11 +1,10 @@
 -- What a call answers and leaves: the document's number, and every byte of every block. A malformed block is refused with nothing changed.
-use Rattle.std.specs.Prelude.{List, ℕ, eqb, length, if◌then◌else◌}
+use Rattle.std.specs.Prelude.{List, ℕ, eqb, length, Option, Some, None, if◌then◌else◌}
+use Rattle.sm83.specs.declared.Cpu.{Cpu}
 use Rattle.sm83.specs.declared.MCycles.{MCycles}
 use Rattle.definition.specs.Bus.{plain}
 use Rattle.outcome.specs.Numbers.{last_number}
 use Rattle.definition.specs.Run.{RunAnswer, run_for}
-use Rattle.blocks.specs.declared.state.StateRead.{StateRead}
-use Rattle.blocks.specs.declared.state.StateRead.TheVariants.{State, Malformed}
 use Rattle.blocks.specs.StateBlock.{state_of, state_bytes}
 use Rattle.blocks.specs.AnswerBlock.{answer_bytes}
 
@@ -29,9 +28,9 @@ count n = record { 0 = n }
 abbrev pub into_blocks : RunAnswer (List ℕ) → List ℕ → List ℕ → Left
 into_blocks r state answer = left (last_number r.last) (state_bytes r.cpu state) r.memory (answer_bytes r.last r.steps (count r.cycles) answer)
 
-abbrev pub run_from : StateRead → ℕ → List ℕ → List ℕ → List ℕ → Left
-run_from Malformed budget state memory answer = left malformed state memory answer
-run_from (State cpu) budget state memory answer = into_blocks (run_for plain budget cpu memory) state answer
+abbrev pub run_from : Option Cpu → ℕ → List ℕ → List ℕ → List ℕ → Left
+run_from None budget state memory answer = left malformed state memory answer
+run_from (Some cpu) budget state memory answer = into_blocks (run_for plain budget cpu memory) state answer
 
 unfoldable pub run_blocks : ℕ → List ℕ → List ℕ → List ℕ → Left
 run_blocks budget state memory answer = if eqb (length answer) 24 then run_from (state_of state) budget state memory answer else left malformed state memory answer

@@ -17,6 +17,9 @@ pub mod calls;
 pub mod powercall;
 pub mod screencall;
 
+// What C is answered for a malformed block or an unknown model; no outcome and no refusal has this number.
+const MALFORMED: u8 = 255;
+
 // 1.0.0, a byte each.
 const LIBRARY: u64 = 0x010000;
 

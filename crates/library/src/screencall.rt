@@ -2,13 +2,14 @@
 ghost use Rattle.std.specs.Prelude.{◌≡◌};
 ghost use Rattle.library.specs.Screened.{left_by_screen, screen_blocks};
 
+use crate::MALFORMED;
 use blocks::verdicts::{VERDICT_LENGTH, write_verdict};
+use routine::verdict_number;
 use screen::screen;
 use sm83::Addr;
 
-const MALFORMED: u8 = 255;
-
 // Memory is never changed; the marks are as the screen leaves them.
+#[tactic(auto, unfolding(crate::specs::Screened::screen_blocks))]
 pub fn screen_blocks(mem: &[u8], first: u16, last: u16, marks: &mut [u8], answer: &mut [u8]) -> u8
     ensures { left_by_screen result marks.new answer.new ≡ screen_blocks mem.now first last marks.old answer.old }
 {
@@ -17,5 +18,5 @@ pub fn screen_blocks(mem: &[u8], first: u16, last: u16, marks: &mut [u8], answer
     }
     let verdict = screen(mem, Addr(first), Addr(last), marks);
     write_verdict(answer, verdict);
-    verdict.number()
+    verdict_number(verdict)
 }

@@ -1,4 +1,5 @@
 // What C and Rust link: the functions of `library` under the names that include/phkarotuk.h declares, each with the clauses that it has there.
+// No crate can stand on a static library, so each of them is a function here for C and one there for Rattle.
 #![tactic(auto)]
 
 ghost use Rattle.std.specs.Prelude.{◌≡◌};

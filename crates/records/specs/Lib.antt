@@ -1,6 +1,5 @@
 -- What a record of the stored sample says, and what of it is counted.
 pub mod Bytes
 pub mod Record
-pub mod Lent
 pub mod Front
 pub mod Notes

@@ -1,5 +1,5 @@
 -- The layout of a record: where its parts stand, and what they say. Words stand low byte first.
-use Rattle.std.specs.Prelude.{ℕ, ◌+◌, ◌*◌, ◌≤◌, List, length, replicate}
+use Rattle.std.specs.Prelude.{ℕ, ◌+◌, ◌*◌, List, replicate}
 use Rattle.definition.specs.Bus.{byte_at}
 use Rattle.blocks.specs.Bytes.{word_at}
 use Rattle.records.specs.Bytes.{patched}
@@ -77,11 +77,6 @@ changed r = word_at r changed_at
 -- where those bytes of a step or a run stand that change: behind the listed ones, of three bytes each
 abbrev pub changes_at : List ℕ → ℕ
 changes_at r = bytes_at + 3 * listed r
-
--- a record has a head, and its listed bytes stand at an offset
-pub record ListedAt (r : List ℕ) (at : ℕ) : Type 0 where
-  pub headed : head_size ≤ length r
-  pub fits : at + 3 * listed r ≤ length r
 
 -- Memory: all 0 but for the listed bytes, which stand at an offset.
 abbrev pub memory_from : List ℕ → ℕ → ℕ → List ℕ

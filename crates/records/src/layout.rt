@@ -1,13 +1,12 @@
-// Where the parts of a record stand, and the numbers and the memory that it tells.
-ghost use Rattle.std.specs.Prelude.{◌≡◌, ◌≤◌, length};
-ghost use Rattle.records.specs.Record.{head_size, memory_length, listed, changed, ListedAt, memory_from};
-ghost use Rattle.records.specs.Lent.{UpTo};
+// A record of the stored sample: where its parts stand, and the numbers and the memory that it tells.
+ghost use Rattle.std.specs.Prelude.{◌≡◌, ◌+◌, ◌*◌, ◌<◌, ◌≤◌, length, MatchOption};
+ghost use Rattle.records.specs.Record.{head_size, kind_of, name_length, memory_length, listed, changed, memory_from};
 
-use crate::slices::{clear, patch};
+use crate::slices::patch;
 use blocks::bytes::word_at;
 
-// The head, of every record.
-pub const KIND: usize = 2;
+// The head, of every record. The layout is the file's, by offsets, as specs/Record has it.
+pub(crate) const KIND: usize = 2;
 
 pub const NAME_LENGTH: usize = 3;
 
@@ -23,7 +22,7 @@ pub const FIRST: usize = 11;
 
 pub const LAST: usize = 13;
 
-pub const HEAD_SIZE: usize = 15;
+pub(crate) const HEAD_SIZE: usize = 15;
 
 // A step or a run.
 pub const STATE: usize = 15;
@@ -39,40 +38,61 @@ pub const VERDICT: usize = 15;
 
 pub const MARKS: usize = 19;
 
-// Each of these asks for a record that has a head.
-pub fn memory_length(item: &[u8]) -> usize
-    requires { head_size ≤ length item.now }
-    ensures { result ≡ memory_length item.now }
-{
-    word_at(item, MEMORY_LENGTH) as usize + 65536 * wide(item[MEMORY_LENGTH + 2])
+// A record that has a head.
+#[derive(Clone, Copy)]
+pub struct Record<'a> {
+    pub bytes: &'a [u8],
+    pub ghost headed: { head_size ≤ length bytes.now },
 }
 
-pub fn wide(byte: u8) -> usize
-    ensures { UpTo 255 byte result }
-{
-    byte as usize
-}
+impl<'a> Record<'a> {
+    // None if the head is cut.
+    pub fn of(bytes: &'a [u8]) -> Option<Record<'a>>
+        ensures { MatchOption result (length bytes.now < head_size) (λ r. r.bytes.now ≡ bytes.now) }
+    {
+        if bytes.len() < HEAD_SIZE {
+            return None;
+        }
+        Some(Record { bytes })
+    }
 
-pub fn listed(item: &[u8]) -> usize
-    requires { head_size ≤ length item.now }
-    ensures { UpTo 65535 (listed item.now) result }
-{
-    word_at(item, LISTED) as usize
-}
+    pub fn kind(self) -> u8
+        ensures { result ≡ kind_of self.entry.bytes.now }
+    {
+        self.bytes[KIND]
+    }
 
-pub fn changed(item: &[u8]) -> usize
-    requires { head_size ≤ length item.now }
-    ensures { UpTo 65535 (changed item.now) result }
-{
-    word_at(item, CHANGED) as usize
-}
+    pub fn name_length(self) -> u8
+        ensures { result ≡ name_length self.entry.bytes.now }
+    {
+        self.bytes[NAME_LENGTH]
+    }
 
-// Memory before: all 0 but for the listed bytes.
-pub fn lay(item: &[u8], at: usize, mem: &mut [u8])
-    requires { ListedAt item.now at }
-    ensures { mem.new ≡ memory_from item.now at (length mem.old) }
-{
-    let n = listed(item);
-    clear(mem);
-    patch(item, at, n, mem);
+    pub fn memory_length(self) -> usize
+        ensures { result ≡ memory_length self.entry.bytes.now }
+    {
+        usize::from(word_at(self.bytes, MEMORY_LENGTH))
+            + 65536 * usize::from(self.bytes[MEMORY_LENGTH + 2])
+    }
+
+    pub fn listed(self) -> u16
+        ensures { result ≡ listed self.entry.bytes.now }
+    {
+        word_at(self.bytes, LISTED)
+    }
+
+    pub fn changed(self) -> u16
+        ensures { result ≡ changed self.entry.bytes.now }
+    {
+        word_at(self.bytes, CHANGED)
+    }
+
+    // Memory before: all 0 but for the listed bytes, which stand at an offset.
+    pub fn lay(self, at: usize, mem: &mut [u8])
+        requires { at + 3 * listed self.bytes.now ≤ length self.bytes.now }
+        ensures { mem.new ≡ memory_from self.entry.bytes.now at (length mem.old) }
+    {
+        mem.fill(0);
+        patch(self.bytes, at, usize::from(self.listed()), mem);
+    }
 }

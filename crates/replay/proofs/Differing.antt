@@ -1,14 +1,11 @@
 -- How the count of differences goes on: one record judged, one that is not whole, none left, a rest.
-use Rattle.std.proofs.Common.{◌≡◌, ℕ, zero, suc, ◌+◌, ◌-◌, ◌<◌, ◌≤◌, not, List, length, take, drop, sym, ap, ◌∙◌, ap₂, arith, length-drop, drop-drop, eq-eqb, ne_eqb, le-leb}
-use borrow.Author.Tests.{lt-leb}
+use Rattle.std.proofs.Common.{◌≡◌, ℕ, zero, suc, ◌+◌, ◌-◌, ◌<◌, ◌≤◌, Bool, true, false, not, List, length, take, drop, sym, ap, ◌∙◌, ap₂, arith, length-drop, drop-drop, eq-eqb, ne_eqb, le-leb}
+use Rattle.std.specs.Int.{from_bool}
 use Rattle.sm83.specs.Basics.{bit}
 use Rattle.blocks.specs.Bytes.{word_at}
 use Rattle.records.specs.Bytes.{part}
 use Rattle.records.specs.Front.{front_size}
 use Rattle.replay.specs.Replay.{agrees, differing, differs}
-
-pub too_short : (s : List ℕ) → length s < 2 → 1 ≡ differs s
-too_short s h = simp (lt-leb 2 (length s) h)
 
 pub in_all : (s : List ℕ) {count n : ℕ} → 2 ≤ length s → count ≡ word_at s 0 → n ≡ differing count (drop 2 s) → n ≡ differs s
 in_all s h told e = simp (le-leb 2 (length s) h) (e ∙ ap (λ (k : ℕ). differing k (drop 2 s)) told)
@@ -46,8 +43,10 @@ module _ (s : List ℕ) (at : ℕ) where
       (ap₂ (λ (x y : List ℕ). bit (not (agrees x)) + differing n y) record_is rest-is
       ∙ ap₂ (λ (d k : ℕ). d + differing k (drop (at + size) s)) (sym says) (sym fewer))
 
-pub begun : (s : List ℕ) (count : ℕ) → 0 + differing (count - 0) (drop 2 s) ≡ differing count (drop 2 s)
-begun s count = let all : count - 0 ≡ count = omega arith in omega (arith, ap (λ (k : ℕ). differing k (drop 2 s)) all)
+-- what a record adds: 1 if the core does not agree with it
+pub one_unless : (same : Bool) {one : ℕ} → one ≡ from_bool (not same) → (one ≡ bit (not same)) × (one ≤ 1)
+one_unless true e = (e, omega arith)
+one_unless false e = (e, omega arith)
 
 -- a turn of the loop, and its three ends, each with the differences so far
 module _ (s : List ℕ) (at count i differ : ℕ) {whole : ℕ} (so_far : differ + differing (count - i) (drop at s) ≡ whole) where

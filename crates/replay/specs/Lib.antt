@@ -3,4 +3,3 @@ pub mod AsTold
 pub mod Window
 pub mod Told
 pub mod Replay
-pub mod Met

@@ -1,5 +1,5 @@
 -- When the core agrees with a record, and how many records of a sample it does not agree with.
-use Rattle.std.specs.Prelude.{ℕ, zero, suc, ◌+◌, ◌*◌, ◌≤◌, Bool, false, not, leb, List, length, take, drop, ◌==◌, nat_eq, nat_le, if◌then◌else◌}
+use Rattle.std.specs.Prelude.{ℕ, zero, suc, ◌+◌, ◌*◌, Bool, false, not, leb, List, length, take, drop, ◌==◌, nat_eq, nat_le, if◌then◌else◌}
 use Rattle.sm83.specs.Basics.{bit}
 use Rattle.blocks.specs.Bytes.{word_at}
 use Rattle.records.specs.Record.{head_size, kind_of, name_length, memory_length, changed, changes_at}
@@ -10,12 +10,6 @@ use Rattle.replay.specs.Window.{agrees_window}
 -- the longest memory that a record may ask for
 abbrev pub most_memory : ℕ
 most_memory = 131072
-
--- what a comparison asks of a record and of the two slices that it is lent
-pub record Lends (r : List ℕ) (room : ℕ) (m : List ℕ) (room' : ℕ) (other : List ℕ) : Type 0 where
-  pub headed : head_size ≤ length r
-  pub roomy : room ≤ length m
-  pub roomy_too : room' ≤ length other
 
 -- a record is as long as its parts say
 abbrev pub run_size : List ℕ → ℕ

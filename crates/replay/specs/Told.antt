@@ -1,9 +1,8 @@
 -- What the core answers to a record of a step or a run, what the record says of it, and that the two are the same.
-use Rattle.std.specs.Prelude.{ℕ, Bool, ◌&&◌, List, replicate, ◌==◌, if◌then◌else◌}
+use Rattle.std.specs.Prelude.{ℕ, Bool, ◌&&◌, List, replicate, ◌==◌, if◌then◌else◌, bytes_eq}
 use Rattle.blocks.specs.Bytes.{word_at}
 use Rattle.library.specs.Left.{Left, left, run_blocks}
 use Rattle.records.specs.Bytes.{part, patched}
-use Rattle.text.specs.Same.{same_bytes}
 use Rattle.records.specs.Record.{budget_at, state_at, after_at, answer_at, bytes_at, kind_of, changed, changes_at, memory_from}
 
 abbrev pub budget_of : ℕ → ℕ → ℕ
@@ -18,4 +17,4 @@ unfoldable pub told : List ℕ → ℕ → Left
 told r size = left (word_at r answer_at) (part r after_at answer_at) (patched r (changes_at r) (changed r) (memory_from r bytes_at size)) (part r answer_at bytes_at)
 
 abbrev pub same_left : Left → Left → Bool
-same_left a b = a.number == b.number && (same_bytes a.state b.state && (same_bytes a.memory b.memory && same_bytes a.answer b.answer))
+same_left a b = a.number == b.number && (bytes_eq a.state b.state && (bytes_eq a.memory b.memory && bytes_eq a.answer b.answer))

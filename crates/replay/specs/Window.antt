@@ -1,10 +1,9 @@
 -- What the screen answers to a record of a window, what the record says of it, and that the two are the same.
-use Rattle.std.specs.Prelude.{◌≡◌, ℕ, ◌+◌, ◌*◌, ◌≤◌, Bool, false, ◌&&◌, List, length, replicate, ◌==◌, if◌then◌else◌}
+use Rattle.std.specs.Prelude.{ℕ, ◌+◌, ◌*◌, Bool, false, ◌&&◌, List, length, replicate, ◌==◌, if◌then◌else◌, bytes_eq}
 use Rattle.definition.specs.Bus.{byte_at}
 use Rattle.blocks.specs.Bytes.{word_at}
 use Rattle.library.specs.Screened.{LeftByScreen, left_by_screen, screen_blocks}
 use Rattle.records.specs.Bytes.{part}
-use Rattle.text.specs.Same.{same_bytes}
 use Rattle.records.specs.Record.{first_at, last_at, verdict_at, marks_at, name_length, memory_length, listed, changed, memory_from}
 
 abbrev pub marks_told : List ℕ → ℕ
@@ -13,11 +12,6 @@ marks_told r = marks_at + changed r
 abbrev pub marks_end : List ℕ → ℕ
 marks_end r = marks_at + 2 * changed r
 
--- what a comparison asks of a record and of the marks that it is lent
-pub record Marked (r marks : List ℕ) : Type 0 where
-  pub fits : marks_end r + 3 * listed r ≤ length r
-  pub marks_many : length marks ≡ changed r
-
 unfoldable pub asked_screen : List ℕ → ℕ → LeftByScreen
 asked_screen r size = screen_blocks (memory_from r (marks_end r) size) (word_at r first_at) (word_at r last_at) (part r marks_at (marks_told r)) (replicate 4 0)
 
@@ -25,7 +19,7 @@ unfoldable pub told_screen : List ℕ → LeftByScreen
 told_screen r = left_by_screen (byte_at r verdict_at) (part r (marks_told r) (marks_end r)) (part r verdict_at marks_at)
 
 abbrev pub same_screen : LeftByScreen → LeftByScreen → Bool
-same_screen a b = a.number == b.number && (same_bytes a.marks b.marks && same_bytes a.answer b.answer)
+same_screen a b = a.number == b.number && (bytes_eq a.marks b.marks && bytes_eq a.answer b.answer)
 
 -- a record is as long as its parts say
 abbrev pub window_size : List ℕ → ℕ

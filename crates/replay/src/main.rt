@@ -10,22 +10,24 @@ mod told;
 mod windows;
 
 use crate::report::report;
-use rounds::replay;
-use said::{not_opened, note, say, say_number};
+use records::notes::PLACES;
+use rounds::{Room, replay};
+use said::{not_opened, note};
+use sample::MOST_MEMORY;
 use std::env::Env;
 use std::fs::File;
 use std::io;
 use std::io::Read;
 
 fn replay_file(rt: &HostRuntime, file: &[u8]) {
-    let mut mem = [0u8; 131072];
-    let mut other = [0u8; 131072];
-    let mut counts = [0u32; 1536];
-    let differ = replay(rt, file, &mut mem, &mut other, &mut counts);
-    report(rt, &counts);
-    say(rt, b"differ ");
-    say_number(rt, differ as u64);
-    say(rt, b"\n");
+    let mut room = Room {
+        memory: [0u8; MOST_MEMORY],
+        other: [0u8; MOST_MEMORY],
+        counts: [0u32; PLACES],
+    };
+    let differ = replay(rt, file, &mut room);
+    report(rt, &room.counts);
+    println!(rt; "differ {differ}").is_ok();
 }
 
 fn replay_front(rt: &HostRuntime, room: &[u8], n: usize) {
@@ -39,7 +41,7 @@ fn replay_front(rt: &HostRuntime, room: &[u8], n: usize) {
     }
 }
 
-// Until the room is filled, or nothing comes.
+// Until the room is filled, or nothing comes. std's `read_exact` takes a shorter end for an error, so the reads are counted here.
 fn read_full(file: &mut File, room: &mut [u8]) -> io::Result<usize> {
     let mut done = 0;
     while done < room.len() {
@@ -61,22 +63,16 @@ fn replay_from(rt: &HostRuntime, file: &mut File, room: &mut [u8; 1048576]) -> i
 
 fn main(rt: HostRuntime) -> io::Result<()> {
     let mut word = [0u8; 4096];
-    let n = match rt.arg(1, &mut word) {
-        Ok(n) => n,
-        Err(_) => {
-            note(&rt, b"replay: name the sample: replay FILE\n");
-            return Ok(());
-        }
+    let Ok(n) = rt.arg(1, &mut word) else {
+        note(&rt, b"replay: name the sample: replay FILE\n");
+        return Ok(());
     };
-    let path = match str::from_utf8(&word[..n]) {
-        Ok(path) => path,
-        Err(_) => {
-            note(
-                &rt,
-                b"replay: the sample's name is no UTF-8: give it another name\n",
-            );
-            return Ok(());
-        }
+    let Ok(path) = str::from_utf8(&word[..n]) else {
+        note(
+            &rt,
+            b"replay: the sample's name is no UTF-8: give it another name\n",
+        );
+        return Ok(());
     };
     let mut file = match File::open(&rt, path) {
         Ok(file) => file,

@@ -1,68 +1,53 @@
 // One record after the other.
-ghost use Rattle.std.specs.Prelude.{◌≡◌, not};
-ghost use Rattle.sm83.specs.Basics.{bit};
-ghost use Rattle.records.specs.Lent.{UpTo};
+ghost use Rattle.std.specs.Prelude.{◌≡◌};
 ghost use Rattle.replay.specs.Replay.{agrees, differs};
 
 use crate::said::{say_cut, say_differs, say_rest, say_row, say_short};
-use crate::sample::agrees;
-use crate::told::one_unless;
+use crate::sample::{MOST_MEMORY, agrees};
 use blocks::bytes::word_at;
 use records::front::front_size;
-use records::notes::note;
+use records::notes::{PLACES, note};
 
-// 1 if the core does not agree with the record, which is then named.
-fn round(
-    rt: &HostRuntime,
-    item: &[u8],
-    before: usize,
-    at: usize,
-    mem: &mut [u8; 131072],
-    other: &mut [u8; 131072],
-    counts: &mut [u32; 1536],
-) -> usize
-    ensures { UpTo 1 (bit (not (agrees item.now))) result }
+// What a replay is lent: memory for a record, more for what the record says of it, and what was met, counted.
+#[derive(Drop)]
+pub struct Room {
+    pub memory: [u8; MOST_MEMORY],
+    pub other: [u8; MOST_MEMORY],
+    pub counts: [u32; PLACES],
+}
+
+// Whether the core agrees with the record, which is named if not.
+fn round(rt: &HostRuntime, item: &[u8], before: usize, at: usize, room: &mut Room) -> bool
+    ensures { result ≡ agrees item.now }
 {
-    note(item, mem, counts);
-    let same = agrees(item, mem, other);
+    note(item, &mut room.memory, &mut room.counts);
+    let same = agrees(item, &mut room.memory, &mut room.other);
     say_row(rt, item, same);
-    let one = one_unless(same);
-    if same {
-        return one;
+    if !same {
+        say_differs(rt, before, at);
     }
-    say_differs(rt, before, at);
-    one
+    same
 }
 
 // How many records the core does not agree with. A record that is cut short, and a rest behind the last one, count as one.
-pub fn replay(
-    rt: &HostRuntime,
-    file: &[u8],
-    mem: &mut [u8; 131072],
-    other: &mut [u8; 131072],
-    counts: &mut [u32; 1536],
-) -> usize
+pub fn replay(rt: &HostRuntime, file: &[u8], room: &mut Room) -> usize
     ensures { result ≡ differs file.now }
 {
     if file.len() < 2 {
         say_short(rt);
         return 1;
     }
-    let count = word_at(file, 0) as usize;
-    let mut at: usize = 2;
-    let mut i: usize = 0;
-    let mut differ: usize = 0;
-    while i < count {
-        let size = front_size(file, at);
-        if size == 0 {
+    let count = usize::from(word_at(file, 0));
+    let mut at = 2;
+    let mut differ = 0;
+    for i in 0..count {
+        let Some(size) = front_size(file, at) else {
             say_cut(rt, i, at);
             return differ + 1;
-        }
-        let end = at + size;
-        let one = round(rt, &file[at..end], i, at, mem, other, counts);
-        differ += one;
-        at = end;
-        i += 1;
+        };
+        let same = round(rt, &file[at..at + size], i, at, room);
+        differ += usize::from(!same);
+        at += size;
     }
     let more = at < file.len();
     if more {

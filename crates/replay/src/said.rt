@@ -1,17 +1,13 @@
 // What a replay says as it goes: of a record with a name, of a record that differs, and of a sample that is not whole.
 ghost use Rattle.std.specs.Prelude.{◌≤◌, length};
 
-use records::layout::{NAME_LENGTH, wide};
+use records::layout::NAME_LENGTH;
 use std::io;
 use std::io::Write;
 
 // What standard output does not take is lost.
 pub fn say(rt: &HostRuntime, words: &[u8]) {
     rt.stdout().write_all(words).is_ok();
-}
-
-pub fn say_number(rt: &HostRuntime, number: u64) {
-    print!(rt; "{number}").is_ok();
 }
 
 // The same on standard error.
@@ -38,25 +34,11 @@ pub fn not_opened(rt: &HostRuntime, path: &str, e: io::Error) {
     let mut rest: &mut [u8] = &mut said;
     let _ = write!(rest, "{e}");
     let left = rest.len();
-    let n = if left < room { room - left } else { 0 };
-    let n = words_in(&said[..n]);
+    let n = words_in(&said[..room.saturating_sub(left)]);
     note(rt, path.as_bytes());
     note(rt, b": ");
     note(rt, &said[..n]);
     note(rt, b"\n");
-}
-
-fn say_with(rt: &HostRuntime, words: &[u8], number: usize) {
-    say(rt, words);
-    say_number(rt, number as u64);
-}
-
-fn say_result(rt: &HostRuntime, same: bool) {
-    if same {
-        say(rt, b": ok\n");
-    } else {
-        say(rt, b": DIFFERS\n");
-    }
 }
 
 // A record with a name is a row of the document, or of docs/DIFFERENCES.md; the name stands at its end.
@@ -64,45 +46,35 @@ pub fn say_row(rt: &HostRuntime, item: &[u8], same: bool) {
     if item.len() <= NAME_LENGTH {
         return;
     }
-    let n = wide(item[NAME_LENGTH]);
-    if n == 0 {
+    let n = usize::from(item[NAME_LENGTH]);
+    if n == 0 || n > item.len() {
         return;
     }
-    if n <= item.len() {
-        let from = item.len() - n;
-        say(rt, b"row ");
-        say(rt, &item[from..]);
-        say_result(rt, same);
-    }
+    say(rt, b"row ");
+    say(rt, &item[item.len() - n..]);
+    say(rt, if same { b": ok\n" } else { b": DIFFERS\n" });
 }
 
 pub fn say_short(rt: &HostRuntime) {
-    say(
-        rt,
-        b"the sample is shorter than 2 bytes: make it again with oracle/sample\n",
-    );
+    println!(rt; "the sample is shorter than 2 bytes: make it again with oracle/sample").is_ok();
 }
 
 pub fn say_cut(rt: &HostRuntime, before: usize, at: usize) {
-    say_with(rt, b"no whole record at byte ", at);
-    say_with(rt, b", after record ", before);
-    say(
-        rt,
-        b": the sample is cut short; make it again with oracle/sample\n",
-    );
+    println!(rt;
+        "no whole record at byte {at}, after record {before}: the sample is cut short; make it again with oracle/sample"
+    ).is_ok();
 }
 
 pub fn say_rest(rt: &HostRuntime, at: usize) {
-    say_with(rt, b"the last record ends at byte ", at);
-    say(
-        rt,
-        b", but the sample goes on: make it again with oracle/sample\n",
-    );
+    println!(rt;
+        "the last record ends at byte {at}, but the sample goes on: make it again with oracle/sample"
+    ).is_ok();
 }
 
 // Records are numbered from 1, as `oracle/sample --show` numbers them.
 pub fn say_differs(rt: &HostRuntime, before: usize, at: usize) {
-    say_with(rt, b"record ", std::num::wrapping_add_usize(before, 1));
-    say_with(rt, b", at byte ", at);
-    say(rt, b", DIFFERS: see it with oracle/sample --show\n");
+    let number = before.wrapping_add(1);
+    println!(rt;
+        "record {number}, at byte {at}, DIFFERS: see it with oracle/sample --show"
+    ).is_ok();
 }

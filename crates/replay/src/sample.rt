@@ -4,22 +4,22 @@ ghost use Rattle.replay.specs.Replay.{agrees};
 
 use crate::runs::run_agrees;
 use crate::windows::window_agrees;
-use records::layout::{HEAD_SIZE, KIND, memory_length};
+use records::layout::Record;
 
-const MOST_MEMORY: usize = 131072;
+pub const MOST_MEMORY: usize = 131072;
 
 // A record that is cut short, asks for more memory than is lent or is of no kind agrees with nothing.
-pub fn agrees(item: &[u8], mem: &mut [u8; 131072], other: &mut [u8; 131072]) -> bool
+#[tactic(auto, unfolding(crate::specs::Replay::agrees))]
+pub fn agrees(item: &[u8], mem: &mut [u8; MOST_MEMORY], other: &mut [u8; MOST_MEMORY]) -> bool
     ensures { result ≡ agrees item.now }
 {
-    if item.len() < HEAD_SIZE {
+    let Some(item) = Record::of(item) else {
+        return false;
+    };
+    if MOST_MEMORY < item.memory_length() {
         return false;
     }
-    let n = memory_length(item);
-    if MOST_MEMORY < n {
-        return false;
-    }
-    let kind = item[KIND];
+    let kind = item.kind();
     if kind <= 1 {
         return run_agrees(item, mem, other);
     }

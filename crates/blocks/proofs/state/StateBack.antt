@@ -7,7 +7,7 @@ use lib.ListN.{length, drop}
 use Rattle.sm83.specs.declared.Cpu.{Cpu}
 use Rattle.definition.specs.Bus.{byte_at}
 use Rattle.ranges.proofs.Ranges.{Bytes}
-use Rattle.blocks.specs.declared.state.StateRead.TheVariants.{State}
+use Rattle.std.specs.Prelude.{Some}
 use Rattle.blocks.specs.StateBlock.{state_fields, state_bytes, state_in, state_of}
 use Rattle.blocks.proofs.state.Coded.{low_back, high_back, flag_back, halt_back}
 use Rattle.blocks.proofs.bytes.Filled.{at_length, bytes_from, parted}
@@ -28,7 +28,7 @@ own_front block bytes w =
       flag_back (byte_at block 17) w.dmg,
     )
 
-pub state_back : (block : List ℕ) (s : Cpu) → Bytes block → state_of block ≡ State s → state_bytes s block ≡ block
+pub state_back : (block : List ℕ) (s : Cpu) → Bytes block → state_of block ≡ Some s → state_bytes s block ≡ block
 state_back block s bytes read =
     let found = read_only_if block s read in
     let same : length block ≡ 24 = found.0.its_length in

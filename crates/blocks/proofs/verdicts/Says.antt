@@ -3,7 +3,7 @@ use mathlib.Core.Path.{◌≡◌, refl, sym, subst}
 use mathlib.Core.List.{List, ◌++◌}
 use Prim.Native.Nat.{ℕ}
 use lib.ListN.{length, drop}
-use Rattle.routine.specs.declared.Verdict.{Verdict}
+use Rattle.routine.specs.Verdict.{Verdict}
 use Rattle.definition.specs.Bus.{byte_at}
 use Rattle.routine.specs.Numbers.{verdict_says}
 use Rattle.blocks.specs.Bytes.{word_at}

@@ -5,7 +5,4 @@ use Rattle.replay.proofs.rounds.replay.Given as goal
 
 abbrev pub invariant-loop-i : goal.invariant-loop-i
 invariant-loop-i l =
-    (l.at ≤ length l.file) × (l.i ≤ l.count) × (l.differ ≤ l.i) × (l.differ + differing (l.count - l.i) (drop l.at l.file) ≡ differing l.count (drop 2 l.file))
-
-abbrev pub decreases-loop-i : goal.decreases-loop-i
-decreases-loop-i l = l.count - l.i
+    (l.at ≤ length l.file) × (l.differ ≤ l.i) × (l.differ + differing (l.count - l.i) (drop l.at l.file) ≡ differing l.count (drop 2 l.file))

@@ -1,2 +1,0 @@
--- Laws of the blocks after a step or a run.
-pub mod Blocks

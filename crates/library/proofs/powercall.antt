@@ -1,2 +1,0 @@
--- Laws of the state block after power-on.
-pub mod PowerOns

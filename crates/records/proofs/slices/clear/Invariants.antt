@@ -1,9 +1,0 @@
--- The invariant: as many zeros as turns, then the slice as it came.
-use Rattle.std.proofs.Common.{◌≡◌, ◌-◌, ◌≤◌, ◌++◌, length, drop, replicate}
-use Rattle.records.proofs.slices.clear.Given as goal
-
-abbrev pub invariant-loop-i : goal.invariant-loop-i
-invariant-loop-i l = (l.i ≤ length l.fn.s) × (length l.s ≡ length l.fn.s) × (l.s ≡ replicate l.i 0 ++ drop l.i l.fn.s)
-
-abbrev pub decreases-loop-i : goal.decreases-loop-i
-decreases-loop-i l = l.n - l.i
