@@ -1,23 +1,25 @@
 -- The grammar of the command line: the words of each command, what follows an option, and what a word names.
-use Rattle.std.specs.Prelude.{◌≡◌, Bool, true, false, ◌||◌, List, [], ◌∷◌, ℕ, ◌<◌, eqb, get_or}
+use Rattle.std.specs.Prelude.{◌≡◌, Bool, true, false, ◌||◌, List, [], ◌∷◌, ℕ, zero, suc, ◌<◌, eqb, slice_get, Option, Some, None}
 use Rattle.text.specs.Page.{ascii, choose}
 use Rattle.text.specs.Lines.{number_of}
 use Rattle.commandline.specs.declared.grammar.Command.{Command}
 use Rattle.commandline.specs.declared.grammar.Command.TheVariants.{Screen, Run, Step, Show, Demo, Version, Help}
 use Rattle.commandline.specs.declared.grammar.Part.{Part}
 use Rattle.commandline.specs.declared.grammar.Part.TheVariants as part
+use Rattle.commandline.specs.declared.grammar.Power.{Power}
 use Rattle.commandline.specs.declared.grammar.Power.TheVariants.{Dmg, Cgb, CgbDmg, Zero}
 use Rattle.commandline.specs.declared.grammar.Turn.{Turn}
 use Rattle.commandline.specs.declared.grammar.Turn.TheVariants.{Nothing, One, Two, Three}
 use Rattle.commandline.specs.declared.grammar.Kind.{Kind}
 use Rattle.commandline.specs.declared.grammar.Kind.TheVariants as kind
-use Rattle.commandline.specs.declared.grammar.Kind.TheVariants.{Alone, Path, Address, Number, Power}
-use Rattle.commandline.specs.declared.grammar.NamedCommand.{NamedCommand}
-use Rattle.commandline.specs.declared.grammar.NamedCommand.TheVariants as command
-use Rattle.commandline.specs.declared.grammar.NamedOption.{NamedOption}
-use Rattle.commandline.specs.declared.grammar.NamedOption.TheVariants as option
-use Rattle.commandline.specs.declared.grammar.NamedPower.{NamedPower}
-use Rattle.commandline.specs.declared.grammar.NamedPower.TheVariants as power
+use Rattle.commandline.specs.declared.grammar.Kind.TheVariants.{Alone, Path, Address, Number}
+
+-- the first of the words that are still to come, and the others
+abbrev pub split_first : Turn → Option (Part × Turn)
+split_first Nothing = None
+split_first (One p) = Some (p, Nothing)
+split_first (Two p q) = Some (p, One q)
+split_first (Three p q r) = Some (p, Two q r)
 
 -- the unnamed words of a command
 abbrev pub turn_of : Command → Turn
@@ -92,7 +94,7 @@ kind_of part.Address = Address
 kind_of part.Count = Number
 kind_of part.Topic = kind.Command
 kind_of part.At = Address
-kind_of part.State = Power
+kind_of part.State = kind.Power
 kind_of part.Pc = Address
 kind_of part.Sp = Address
 kind_of part.Af = Address
@@ -115,7 +117,7 @@ own_value Alone p = Nothing
 own_value Path p = One p
 own_value Address p = One p
 own_value Number p = One p
-own_value Power p = One p
+own_value kind.Power p = One p
 own_value kind.Command p = One p
 
 -- the values that come after an option: after --within, which is FIRST, a second one
@@ -129,49 +131,27 @@ is_alone (One p) = false
 is_alone (Two p q) = false
 is_alone (Three p q r) = false
 
--- what the lines of a text name, in their order; a word is looked up by the number of its line, which is 0 if it has none
-abbrev pub commands : List NamedCommand
-commands = command.Is Screen ∷ command.Is Run ∷ command.Is Step ∷ command.Is Show ∷ command.Is Demo ∷ command.Is Version ∷ command.Is Help ∷ []
+-- of these items, the one with a number, counted from 1: a word is looked up by the number of the line that holds it
+abbrev pub named : {T : Type 0} → List T → Option ℕ → Option T
+named items None = None
+named items (Some zero) = None
+named items (Some (suc k)) = slice_get items k
 
-abbrev pub command_at : ℕ → NamedCommand
-command_at n = get_or (command.Unknown ∷ commands) n command.Unknown
+-- what the lines of a text name, in their order
+abbrev pub commands : List Command
+commands = Screen ∷ Run ∷ Step ∷ Show ∷ Demo ∷ Version ∷ Help ∷ []
 
-unfoldable pub command_named : List ℕ → NamedCommand
-command_named word = command_at (number_of (ascii "screen\nrun\nstep\nshow\ndemo\nversion --version\nhelp --help -h") word)
+unfoldable pub command_named : List ℕ → Option Command
+command_named word = named commands (number_of (ascii "screen\nrun\nstep\nshow\ndemo\nversion --version\nhelp --help -h") word)
 
-abbrev pub options : List NamedOption
-options =
-    option.Is part.First
-    ∷ option.Is part.At
-    ∷ option.Is part.State
-    ∷ option.Is part.Pc
-    ∷ option.Is part.Sp
-    ∷ option.Is part.Af
-    ∷ option.Is part.Bc
-    ∷ option.Is part.De
-    ∷ option.Is part.Hl
-    ∷ option.Is part.Ime
-    ∷ option.Is part.Ei
-    ∷ option.Is part.Steps
-    ∷ option.Is part.Out
-    ∷ option.Is part.Marks
-    ∷ option.Is part.Map
-    ∷ option.Is part.Trace
-    ∷ option.Is part.Stack
-    ∷ option.Is part.Help
-    ∷ []
+abbrev pub options : List Part
+options = part.First ∷ part.At ∷ part.State ∷ part.Pc ∷ part.Sp ∷ part.Af ∷ part.Bc ∷ part.De ∷ part.Hl ∷ part.Ime ∷ part.Ei ∷ part.Steps ∷ part.Out ∷ part.Marks ∷ part.Map ∷ part.Trace ∷ part.Stack ∷ part.Help ∷ []
 
-abbrev pub option_at : ℕ → NamedOption
-option_at n = get_or (option.Unknown ∷ options) n option.Unknown
+unfoldable pub option_named : List ℕ → Option Part
+option_named word = named options (number_of (ascii "--within\n--at\n--state\n--pc\n--sp\n--af\n--bc\n--de\n--hl\n--ime\n--ei\n--steps\n--out\n--marks\n--map\n--trace\n--stack\n--help -h") word)
 
-unfoldable pub option_named : List ℕ → NamedOption
-option_named word = option_at (number_of (ascii "--within\n--at\n--state\n--pc\n--sp\n--af\n--bc\n--de\n--hl\n--ime\n--ei\n--steps\n--out\n--marks\n--map\n--trace\n--stack\n--help -h") word)
+abbrev pub powers : List Power
+powers = Dmg ∷ Cgb ∷ CgbDmg ∷ Zero ∷ []
 
-abbrev pub powers : List NamedPower
-powers = power.Is Dmg ∷ power.Is Cgb ∷ power.Is CgbDmg ∷ power.Is Zero ∷ []
-
-abbrev pub power_at : ℕ → NamedPower
-power_at n = get_or (power.Unknown ∷ powers) n power.Unknown
-
-unfoldable pub power_named : List ℕ → NamedPower
-power_named word = power_at (number_of (ascii "dmg\ncgb\ncgb-dmg\nzero") word)
+unfoldable pub power_named : List ℕ → Option Power
+power_named word = named powers (number_of (ascii "dmg\ncgb\ncgb-dmg\nzero") word)

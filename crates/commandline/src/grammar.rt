@@ -1,8 +1,8 @@
 // The grammar: the commands, what a word may stand for, which words a command takes, and what follows an option. A new command or option
 // is one case in each of these, and a sentence in the program.
 ghost use Rattle.std.specs.Prelude.{◌≡◌};
-ghost use Rattle.commandline.specs.declared.grammar.Command.TheVariants.{Run, Step};
-ghost use Rattle.commandline.specs.Grammar.{PlaceOf, turn_of, may_lack, allows, kind_of, own_value, values_of, is_alone, command_named, option_named, power_named};
+ghost use Rattle.text.specs.Lines.{number_of};
+ghost use Rattle.commandline.specs.Grammar.{PlaceOf, split_first, turn_of, may_lack, allows, kind_of, own_value, values_of, is_alone, named, command_named, option_named, power_named};
 
 use text::lines::number_of;
 
@@ -18,7 +18,7 @@ pub enum Command {
 }
 
 // What a word after the command stands for: an unnamed word, by its turn, or an option.
-#[derive(Clone, Copy)]
+#[derive(Clone, Copy, Debug, PartialEq, Eq)]
 pub enum Part {
     Image,
     First,
@@ -51,31 +51,7 @@ pub(crate) const PARTS: usize = 23;
 pub(crate) fn place(part: Part) -> usize
     ensures { PlaceOf part result }
 {
-    match part {
-        Part::Image => 0,
-        Part::First => 1,
-        Part::Last => 2,
-        Part::Address => 3,
-        Part::Count => 4,
-        Part::Topic => 5,
-        Part::At => 6,
-        Part::State => 7,
-        Part::Pc => 8,
-        Part::Sp => 9,
-        Part::Af => 10,
-        Part::Bc => 11,
-        Part::De => 12,
-        Part::Hl => 13,
-        Part::Ime => 14,
-        Part::Ei => 15,
-        Part::Steps => 16,
-        Part::Out => 17,
-        Part::Marks => 18,
-        Part::Map => 19,
-        Part::Trace => 20,
-        Part::Stack => 21,
-        Part::Help => 22,
-    }
+    part as usize
 }
 
 // The states at power-on.
@@ -87,13 +63,26 @@ pub enum Power {
     Zero,
 }
 
-// The words that are still to come, in their order.
+// The words that are still to come, in their order: three at most, and none left out, as a list of that length could not say.
 #[derive(Clone, Copy)]
 pub enum Turn {
     Nothing,
     One(Part),
     Two(Part, Part),
     Three(Part, Part, Part),
+}
+
+impl Turn {
+    pub(crate) fn split_first(self) -> Option<(Part, Turn)>
+        ensures { result ≡ split_first self }
+    {
+        match self {
+            Turn::Nothing => None,
+            Turn::One(a) => Some((a, Turn::Nothing)),
+            Turn::Two(a, b) => Some((a, Turn::One(b))),
+            Turn::Three(a, b, c) => Some((a, Turn::Two(b, c))),
+        }
+    }
 }
 
 // The unnamed words of a command.
@@ -115,83 +104,50 @@ pub(crate) fn turn_of(command: Command) -> Turn
 pub(crate) fn may_lack(part: Part) -> bool
     ensures { result ≡ may_lack part }
 {
-    match part {
-        Part::Count | Part::Topic => true,
-        _ => false,
-    }
+    matches!(part, Part::Count | Part::Topic)
 }
 
-// The options of `run`; --within is FIRST, the first of its two addresses.
-fn run_allows(part: Part) -> bool
-    ensures { result ≡ allows Run part }
-{
-    match part {
-        Part::First
-        | Part::At
-        | Part::State
-        | Part::Pc
-        | Part::Sp
-        | Part::Af
-        | Part::Bc
-        | Part::De
-        | Part::Hl
-        | Part::Ime
-        | Part::Ei
-        | Part::Steps
-        | Part::Out
-        | Part::Trace
-        | Part::Help => true,
-        _ => false,
-    }
-}
-
-fn step_allows(part: Part) -> bool
-    ensures { result ≡ allows Step part }
-{
-    match part {
-        Part::At
-        | Part::State
-        | Part::Pc
-        | Part::Sp
-        | Part::Af
-        | Part::Bc
-        | Part::De
-        | Part::Hl
-        | Part::Ime
-        | Part::Ei
-        | Part::Out
-        | Part::Help => true,
-        _ => false,
-    }
-}
-
-// The options of a command.
+// The options of a command; --within is FIRST, the first of its two addresses.
 pub(crate) fn allows(command: Command, part: Part) -> bool
     ensures { result ≡ allows command part }
 {
     match command {
-        Command::Screen => match part {
-            Part::At | Part::Marks | Part::Map | Part::Help => true,
-            _ => false,
-        },
-        Command::Run => run_allows(part),
-        Command::Step => step_allows(part),
-        Command::Show => match part {
-            Part::At | Part::Stack | Part::Help => true,
-            _ => false,
-        },
-        Command::Demo => match part {
-            Part::Help => true,
-            _ => false,
-        },
-        Command::Version => match part {
-            Part::Help => true,
-            _ => false,
-        },
-        Command::Help => match part {
-            Part::Help => true,
-            _ => false,
-        },
+        Command::Screen => matches!(part, Part::At | Part::Marks | Part::Map | Part::Help),
+        Command::Run => matches!(
+            part,
+            Part::First
+                | Part::At
+                | Part::State
+                | Part::Pc
+                | Part::Sp
+                | Part::Af
+                | Part::Bc
+                | Part::De
+                | Part::Hl
+                | Part::Ime
+                | Part::Ei
+                | Part::Steps
+                | Part::Out
+                | Part::Trace
+                | Part::Help
+        ),
+        Command::Step => matches!(
+            part,
+            Part::At
+                | Part::State
+                | Part::Pc
+                | Part::Sp
+                | Part::Af
+                | Part::Bc
+                | Part::De
+                | Part::Hl
+                | Part::Ime
+                | Part::Ei
+                | Part::Out
+                | Part::Help
+        ),
+        Command::Show => matches!(part, Part::At | Part::Stack | Part::Help),
+        Command::Demo | Command::Version | Command::Help => matches!(part, Part::Help),
     }
 }
 
@@ -211,29 +167,22 @@ pub(crate) fn kind_of(part: Part) -> Kind
     ensures { result ≡ kind_of part }
 {
     match part {
-        Part::Image => Kind::Path,
-        Part::First => Kind::Address,
-        Part::Last => Kind::Address,
-        Part::Address => Kind::Address,
-        Part::Count => Kind::Number,
+        Part::Image | Part::Out => Kind::Path,
+        Part::First
+        | Part::Last
+        | Part::Address
+        | Part::At
+        | Part::Pc
+        | Part::Sp
+        | Part::Af
+        | Part::Bc
+        | Part::De
+        | Part::Hl => Kind::Address,
+        Part::Count | Part::Steps => Kind::Number,
         Part::Topic => Kind::Command,
-        Part::At => Kind::Address,
         Part::State => Kind::Power,
-        Part::Pc => Kind::Address,
-        Part::Sp => Kind::Address,
-        Part::Af => Kind::Address,
-        Part::Bc => Kind::Address,
-        Part::De => Kind::Address,
-        Part::Hl => Kind::Address,
-        Part::Ime => Kind::Alone,
-        Part::Ei => Kind::Alone,
-        Part::Steps => Kind::Number,
-        Part::Out => Kind::Path,
-        Part::Marks => Kind::Alone,
-        Part::Map => Kind::Alone,
-        Part::Trace => Kind::Alone,
-        Part::Stack => Kind::Alone,
-        Part::Help => Kind::Alone,
+        Part::Ime | Part::Ei | Part::Marks | Part::Map | Part::Trace | Part::Stack | Part::Help =>
+            Kind::Alone,
     }
 }
 
@@ -243,11 +192,7 @@ fn own_value(kind: Kind, part: Part) -> Turn
 {
     match kind {
         Kind::Alone => Turn::Nothing,
-        Kind::Path => Turn::One(part),
-        Kind::Address => Turn::One(part),
-        Kind::Number => Turn::One(part),
-        Kind::Power => Turn::One(part),
-        Kind::Command => Turn::One(part),
+        Kind::Path | Kind::Address | Kind::Number | Kind::Power | Kind::Command => Turn::One(part),
     }
 }
 
@@ -264,91 +209,75 @@ pub(crate) fn values_of(part: Part) -> Turn
 pub(crate) fn is_alone(values: Turn) -> bool
     ensures { result ≡ is_alone values }
 {
-    match values {
-        Turn::Nothing => true,
-        Turn::One(_) => false,
-        Turn::Two(_, _) => false,
-        Turn::Three(_, _, _) => false,
+    matches!(values, Turn::Nothing)
+}
+
+// What a word names: of these items, the one with the number of the line that holds it.
+fn named<T: Copy>(lines: &[u8], items: &[T], word: &[u8]) -> Option<T>
+    ensures { result ≡ named items.now (number_of lines.now word.now) }
+{
+    match number_of(lines, word) {
+        Some(n) if 0 < n => items.get(n - 1).copied(),
+        _ => None,
     }
 }
 
-// What a word names. The numbers are those of the lines in front.
-#[derive(Clone, Copy)]
-pub enum NamedCommand {
-    Is(Command),
-    Unknown,
-}
-
-#[tactic(auto, using(crate::proofs::Lines::no_line), unfolding(crate::specs::Grammar::command_named))]
-pub(crate) fn command_named(word: &[u8]) -> NamedCommand
+#[tactic(auto, unfolding(crate::specs::Grammar::command_named))]
+pub(crate) fn command_named(word: &[u8]) -> Option<Command>
     ensures { result ≡ command_named word.now }
 {
-    match number_of(
+    named(
         b"screen\nrun\nstep\nshow\ndemo\nversion --version\nhelp --help -h",
+        &[
+            Command::Screen,
+            Command::Run,
+            Command::Step,
+            Command::Show,
+            Command::Demo,
+            Command::Version,
+            Command::Help,
+        ],
         word,
-    ) {
-        1 => NamedCommand::Is(Command::Screen),
-        2 => NamedCommand::Is(Command::Run),
-        3 => NamedCommand::Is(Command::Step),
-        4 => NamedCommand::Is(Command::Show),
-        5 => NamedCommand::Is(Command::Demo),
-        6 => NamedCommand::Is(Command::Version),
-        7 => NamedCommand::Is(Command::Help),
-        _ => NamedCommand::Unknown,
-    }
+    )
 }
 
-#[derive(Clone, Copy)]
-pub enum NamedOption {
-    Is(Part),
-    Unknown,
-}
-
-#[tactic(auto, using(crate::proofs::Lines::no_line), unfolding(crate::specs::Grammar::option_named))]
-pub(crate) fn option_named(word: &[u8]) -> NamedOption
+#[tactic(auto, unfolding(crate::specs::Grammar::option_named))]
+pub(crate) fn option_named(word: &[u8]) -> Option<Part>
     ensures { result ≡ option_named word.now }
 {
-    match number_of(
+    named(
         b"--within\n--at\n--state\n--pc\n--sp\n--af\n--bc\n--de\n--hl\n--ime\n--ei\n--steps\n--out\n--marks\n--map\n--trace\n--stack\n--help -h",
+        &[
+            Part::First,
+            Part::At,
+            Part::State,
+            Part::Pc,
+            Part::Sp,
+            Part::Af,
+            Part::Bc,
+            Part::De,
+            Part::Hl,
+            Part::Ime,
+            Part::Ei,
+            Part::Steps,
+            Part::Out,
+            Part::Marks,
+            Part::Map,
+            Part::Trace,
+            Part::Stack,
+            Part::Help,
+        ],
         word,
-    ) {
-        1 => NamedOption::Is(Part::First),
-        2 => NamedOption::Is(Part::At),
-        3 => NamedOption::Is(Part::State),
-        4 => NamedOption::Is(Part::Pc),
-        5 => NamedOption::Is(Part::Sp),
-        6 => NamedOption::Is(Part::Af),
-        7 => NamedOption::Is(Part::Bc),
-        8 => NamedOption::Is(Part::De),
-        9 => NamedOption::Is(Part::Hl),
-        10 => NamedOption::Is(Part::Ime),
-        11 => NamedOption::Is(Part::Ei),
-        12 => NamedOption::Is(Part::Steps),
-        13 => NamedOption::Is(Part::Out),
-        14 => NamedOption::Is(Part::Marks),
-        15 => NamedOption::Is(Part::Map),
-        16 => NamedOption::Is(Part::Trace),
-        17 => NamedOption::Is(Part::Stack),
-        18 => NamedOption::Is(Part::Help),
-        _ => NamedOption::Unknown,
-    }
+    )
 }
 
-#[derive(Clone, Copy)]
-pub enum NamedPower {
-    Is(Power),
-    Unknown,
-}
-
-#[tactic(auto, using(crate::proofs::Lines::no_line), unfolding(crate::specs::Grammar::power_named))]
-pub(crate) fn power_named(word: &[u8]) -> NamedPower
+#[tactic(auto, unfolding(crate::specs::Grammar::power_named))]
+pub(crate) fn power_named(word: &[u8]) -> Option<Power>
     ensures { result ≡ power_named word.now }
 {
-    match number_of(b"dmg\ncgb\ncgb-dmg\nzero", word) {
-        1 => NamedPower::Is(Power::Dmg),
-        2 => NamedPower::Is(Power::Cgb),
-        3 => NamedPower::Is(Power::CgbDmg),
-        4 => NamedPower::Is(Power::Zero),
-        _ => NamedPower::Unknown,
-    }
+    named(
+        b"dmg\ncgb\ncgb-dmg\nzero",
+        &[Power::Dmg, Power::Cgb, Power::CgbDmg, Power::Zero],
+        word,
+    )
 }

@@ -1,10 +1,9 @@
 -- An address as it is written: four hexadecimal digits (0300, as the tool writes it), 0x or $ and hexadecimal digits (0x300, $0300), decimal digits and a dot (768.), or one decimal digit, which is the same both ways. Anything else is none.
-use Rattle.std.specs.Prelude.{◌≡◌, Bool, true, false, ◌&&◌, ◌||◌, List, [], ◌∷◌, ℕ, ◌-◌, ◌≤◌, eqb, ltb, length, take, drop, get_or}
+use Rattle.std.specs.Prelude.{Bool, true, false, ◌&&◌, ◌||◌, List, ℕ, ◌-◌, eqb, ltb, length, take, drop, get_or, Result, Err}
+use Rattle.std.specs.List.{list_all}
 use Rattle.text.specs.Page.{choose}
 use Rattle.text.specs.declared.number.Fault.{Fault}
 use Rattle.text.specs.declared.number.Fault.TheVariants.{Empty, NotADigit, HAtTheEnd, NotFourDigits}
-use Rattle.text.specs.declared.number.Number.{Number}
-use Rattle.text.specs.declared.number.Number.TheVariants.{Not}
 use Rattle.text.specs.declared.number.Digit.{Digit}
 use Rattle.text.specs.declared.number.Digit.TheVariants as digit
 use Rattle.text.specs.declared.number.Reading.TheVariants.{Decimal, Prefix}
@@ -24,9 +23,8 @@ is_digit hex digit.H = false
 is_digit hex digit.Other = false
 
 -- digits alone: hexadecimal, or decimal
-unfoldable pub all_digits : Bool → List ℕ → Bool
-all_digits hex [] = true
-all_digits hex (b ∷ bs) = is_digit hex (digit_of b) && all_digits hex bs
+abbrev pub all_digits : Bool → List ℕ → Bool
+all_digits hex word = list_all (λ b. is_digit hex (digit_of b)) word
 
 -- H or h
 abbrev pub is_h : ℕ → Bool
@@ -37,18 +35,18 @@ unfoldable pub not_digits : List ℕ → Fault
 not_digits word = choose (ltb 1 (length word)) (choose (is_h (last word) && all_digits true (front word)) HAtTheEnd NotADigit) NotADigit
 
 -- hexadecimal digits; none is a fault of its own
-unfoldable pub hex_in : List ℕ → Number
-hex_in word = choose (all_digits true word) (read_on Prefix word) (Not (not_digits word))
+unfoldable pub hex_in : List ℕ → Result ℕ Fault
+hex_in word = choose (all_digits true word) (read_on Prefix word) (Err (not_digits word))
 
 -- decimal digits, one at least
-unfoldable pub decimal_in : List ℕ → Number
-decimal_in word = choose (ltb 0 (length word) && all_digits false word) (read_on (Decimal 0) word) (Not NotADigit)
+unfoldable pub decimal_in : List ℕ → Result ℕ Fault
+decimal_in word = choose (ltb 0 (length word) && all_digits false word) (read_on (Decimal 0) word) (Err NotADigit)
 
 -- a word without a mark: four digits, or a decimal digit alone
-unfoldable pub plain_in : List ℕ → Number
+unfoldable pub plain_in : List ℕ → Result ℕ Fault
 plain_in word =
     choose (eqb (length word) 4 || (eqb (length word) 1 && all_digits false word)) (hex_in word)
-    (choose (all_digits true word) (Not NotFourDigits) (Not (not_digits word)))
+    (choose (all_digits true word) (Err NotFourDigits) (Err (not_digits word)))
 
 -- X or x
 abbrev pub is_x : ℕ → Bool
@@ -58,14 +56,10 @@ is_x b = eqb b 88 || eqb b 120
 unfoldable pub mark_of : List ℕ → ℕ
 mark_of word = choose (eqb (get_or word 0 0) 36) 1 (choose (eqb (get_or word 0 0) 48 && is_x (get_or word 1 0)) 2 0)
 
-pub record MarkOf (word : List ℕ) (r : ℕ) : Type 0 where
-  pub is : r ≡ mark_of word
-  pub inside : r ≤ length word
-
 -- 46 is the dot
-unfoldable pub address_in : List ℕ → Number
+unfoldable pub address_in : List ℕ → Result ℕ Fault
 address_in word =
     choose (ltb 0 (length word))
     (choose (ltb 0 (mark_of word)) (hex_in (drop (mark_of word) word))
     (choose (eqb (last word) 46) (decimal_in (front word)) (plain_in word)))
-    (Not Empty)
+    (Err Empty)

@@ -1,5 +1,6 @@
 -- A form: a text in which some bytes are marks. # $ % & stand for the next value, @ for the word as it can be shown.
 use Rattle.std.specs.Prelude.{◌&&◌, List, [], ◌∷◌, ◌++◌, ℕ, ◌+◌, ◌/◌, ◌%◌, eqb, ltb, get_or}
+use Rattle.std.specs.Int.{from_bool}
 use Rattle.text.specs.Page.{choose}
 use Rattle.text.specs.Hex.{hex2, hex4}
 use Rattle.text.specs.Digits.{decimal}
@@ -24,7 +25,7 @@ meant b value word =
 
 -- 1 for a mark that takes a value
 abbrev pub takes : ℕ → ℕ
-takes b = choose (ltb 34 b && ltb b 39) 1 0
+takes b = from_bool (ltb 34 b && ltb b 39)
 
 -- from the value with number k on; a value that is missing counts as 0
 unfoldable pub filled_from : ℕ → List ℕ → List ℕ → List ℕ → List ℕ

@@ -1,13 +1,12 @@
 -- Numbers as a person writes them.
-use Rattle.std.specs.Prelude.{Bool, true, false, ◌||◌, List, [], ◌∷◌, ℕ, ◌+◌, ◌-◌, ◌*◌, eqb, ltb}
+use Rattle.std.specs.Prelude.{Bool, true, false, ◌||◌, List, [], ◌∷◌, ℕ, ◌+◌, ◌-◌, ◌*◌, eqb, ltb, Result, Ok, Err}
 use Rattle.text.specs.Page.{choose}
+use Rattle.text.specs.declared.number.Fault.{Fault}
 use Rattle.text.specs.declared.number.Fault.TheVariants.{Empty, NotADigit, HAtTheEnd, HexWithoutPrefix, NoDigitAfterPrefix, TooLarge}
-use Rattle.text.specs.declared.number.Number.{Number}
-use Rattle.text.specs.declared.number.Number.TheVariants.{Is, Not}
 use Rattle.text.specs.declared.number.Digit.{Digit}
 use Rattle.text.specs.declared.number.Digit.TheVariants as digit
 use Rattle.text.specs.declared.number.Reading.{Reading}
-use Rattle.text.specs.declared.number.Reading.TheVariants.{Nothing, Zero, Decimal, Prefix, Hex, Wrong}
+use Rattle.text.specs.declared.number.Reading.TheVariants.{Nothing, Zero, Decimal, Prefix, Hex}
 
 -- 0 to 9, A to F, H, a to f, h
 unfoldable pub digit_of : ℕ → Digit
@@ -26,62 +25,64 @@ times_base value true = value * 16
 times_base value false = value * 10
 
 -- one digit more, up to 4,294,967,295
-unfoldable pub grown : ℕ → Bool → ℕ → Number
+unfoldable pub grown : ℕ → Bool → ℕ → Result ℕ Fault
 grown value hex d =
-    choose (ltb 4294967295 value) (Not TooLarge)
-    (choose (ltb 4294967295 (times_base value hex + d)) (Not TooLarge) (Is (times_base value hex + d)))
+    choose (ltb 4294967295 value) (Err TooLarge)
+    (choose (ltb 4294967295 (times_base value hex + d)) (Err TooLarge) (Ok (times_base value hex + d)))
 
-unfoldable pub decimal : Number → Reading
-decimal (Is n) = Decimal n
-decimal (Not f) = Wrong f
+-- what comes of an answer; a fault stays
+abbrev pub going_on : {A B : Type 0} → (A → Result B Fault) → Result A Fault → Result B Fault
+going_on f (Ok x) = f x
+going_on f (Err fault) = Err fault
 
-unfoldable pub hexadecimal : Number → Reading
-hexadecimal (Is n) = Hex n
-hexadecimal (Not f) = Wrong f
+abbrev pub decimal : Result ℕ Fault → Result Reading Fault
+decimal = going_on (λ n. Ok (Decimal n))
 
-unfoldable pub read_decimal : ℕ → Digit → Reading
+abbrev pub hexadecimal : Result ℕ Fault → Result Reading Fault
+hexadecimal = going_on (λ n. Ok (Hex n))
+
+unfoldable pub read_decimal : ℕ → Digit → Result Reading Fault
 read_decimal value (digit.Decimal d) = decimal (grown value false d)
-read_decimal value (digit.Letter d) = Wrong HexWithoutPrefix
-read_decimal value digit.H = Wrong HAtTheEnd
-read_decimal value digit.Other = Wrong NotADigit
+read_decimal value (digit.Letter d) = Err HexWithoutPrefix
+read_decimal value digit.H = Err HAtTheEnd
+read_decimal value digit.Other = Err NotADigit
 
-unfoldable pub read_hex : ℕ → Digit → Reading
+unfoldable pub read_hex : ℕ → Digit → Result Reading Fault
 read_hex value (digit.Decimal d) = hexadecimal (grown value true d)
 read_hex value (digit.Letter d) = hexadecimal (grown value true d)
-read_hex value digit.H = Wrong HAtTheEnd
-read_hex value digit.Other = Wrong NotADigit
+read_hex value digit.H = Err HAtTheEnd
+read_hex value digit.Other = Err NotADigit
 
 -- 48 is 0, 120 and 88 are x and X
-unfoldable pub begun : ℕ → Reading
-begun b = choose (eqb b 48) Zero (read_decimal 0 (digit_of b))
+unfoldable pub begun : ℕ → Result Reading Fault
+begun b = choose (eqb b 48) (Ok Zero) (read_decimal 0 (digit_of b))
 
-unfoldable pub after_zero : ℕ → Reading
-after_zero b = choose (eqb b 120 || eqb b 88) Prefix (read_decimal 0 (digit_of b))
+unfoldable pub after_zero : ℕ → Result Reading Fault
+after_zero b = choose (eqb b 120 || eqb b 88) (Ok Prefix) (read_decimal 0 (digit_of b))
 
--- One byte more. The first mistake stays.
-unfoldable pub read_byte : Reading → ℕ → Reading
+-- one byte more
+unfoldable pub read_byte : Reading → ℕ → Result Reading Fault
 read_byte Nothing b = begun b
 read_byte Zero b = after_zero b
 read_byte (Decimal value) b = read_decimal value (digit_of b)
 read_byte Prefix b = read_hex 0 (digit_of b)
 read_byte (Hex value) b = read_hex value (digit_of b)
-read_byte (Wrong f) b = Wrong f
 
-unfoldable pub reads : Reading → List ℕ → Reading
-reads r [] = r
-reads r (b ∷ bs) = reads (read_byte r b) bs
+-- the bytes one after the other; the first mistake stays
+unfoldable pub reads : Reading → List ℕ → Result Reading Fault
+reads r [] = Ok r
+reads r (b ∷ bs) = going_on (λ next. reads next bs) (read_byte r b)
 
-unfoldable pub ended : Reading → Number
-ended Nothing = Not Empty
-ended Zero = Is 0
-ended (Decimal value) = Is value
-ended Prefix = Not NoDigitAfterPrefix
-ended (Hex value) = Is value
-ended (Wrong f) = Not f
+unfoldable pub ended : Reading → Result ℕ Fault
+ended Nothing = Err Empty
+ended Zero = Ok 0
+ended (Decimal value) = Ok value
+ended Prefix = Err NoDigitAfterPrefix
+ended (Hex value) = Ok value
 
 -- the number of a text, after what has been read before
-abbrev pub read_on : Reading → List ℕ → Number
-read_on r text = ended (reads r text)
+abbrev pub read_on : Reading → List ℕ → Result ℕ Fault
+read_on r text = going_on ended (reads r text)
 
-abbrev pub number_in : List ℕ → Number
+abbrev pub number_in : List ℕ → Result ℕ Fault
 number_in text = read_on Nothing text

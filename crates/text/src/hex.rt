@@ -1,30 +1,31 @@
-// Bytes and words as text: hexadecimal in upper case.
+// Bytes and words as text: hexadecimal in upper case, digit by digit as in `digits`.
 ghost use Rattle.std.specs.Prelude.{◌≡◌, ◌<◌};
-ghost use Rattle.text.specs.Page.{page, Wrote};
+ghost use Rattle.text.specs.Put.{Put};
 ghost use Rattle.text.specs.Hex.{glyph, hex2, hex4};
 
-use crate::page::put_byte;
+use crate::page::Page;
 
-pub fn glyph(d: u8) -> u8
+pub(crate) fn glyph(d: u8) -> u8
     requires { d < 16 }
     ensures { result ≡ glyph d }
 {
-    let plain = d < 10;
-    if plain { 48 + d } else { 55 + d }
+    if d < 10 { b'0' + d } else { b'A' - 10 + d }
 }
 
-// A byte: two hexadecimal digits.
-pub fn put_hex2(out: &mut [u8], at: usize, b: u8) -> usize
-    ensures { Wrote (page at out.old) (hex2 b) (page result out.new) }
-{
-    let next = put_byte(out, at, glyph(b / 16));
-    put_byte(out, next, glyph(b % 16))
-}
+impl Page<'_> {
+    // A byte: two hexadecimal digits.
+    pub(crate) fn put_hex2(&mut self, b: u8)
+        ensures { Put self.old self.new (hex2 b) }
+    {
+        self.put_byte(glyph(b / 16));
+        self.put_byte(glyph(b % 16));
+    }
 
-// An address or a word: four hexadecimal digits.
-pub fn put_hex4(out: &mut [u8], at: usize, w: u16) -> usize
-    ensures { Wrote (page at out.old) (hex4 w) (page result out.new) }
-{
-    let next = put_hex2(out, at, (w / 256) as u8);
-    put_hex2(out, next, (w % 256) as u8)
+    // An address or a word: four hexadecimal digits.
+    pub(crate) fn put_hex4(&mut self, w: u16)
+        ensures { Put self.old self.new (hex4 w) }
+    {
+        self.put_hex2((w / 256) as u8);
+        self.put_hex2((w % 256) as u8);
+    }
 }

@@ -1,57 +1,37 @@
 // A text of lines: the line with a number, and the number of the line that holds a word. A line ends at a byte below 11, a word at one
 // below 33.
-ghost use Rattle.std.specs.Prelude.{◌≡◌, ◌&&◌, take, drop};
-ghost use Rattle.text.specs.Within.{Within};
-ghost use Rattle.text.specs.Lines.{Place, until, line_end, from_line, line_of, names, number_of};
+ghost use Rattle.std.specs.Prelude.{◌≡◌};
+ghost use Rattle.text.specs.Lines.{until, from_line, line_of, names, number_of};
 
-use crate::same::same;
-
-// How long the text is in front of its first byte below `end`.
-fn end_of(text: &[u8], end: u8) -> usize
-    ensures { Place take text.now (until end text.now) result }
+// What stands in front of the text's first byte below `end`.
+fn until(text: &[u8], end: u8) -> &[u8]
+    ensures { result.now ≡ until end text.now }
 {
-    let mut i = 0;
-    while i < text.len() {
-        if text[i] < end {
-            return i;
-        }
-        i += 1;
+    match text.iter().position(|b| *b < end) {
+        Some(to) => &text[..to],
+        None => text,
     }
-    i
 }
 
-fn line_end(b: u8) -> usize
-    ensures { Within 1 (line_end b) result }
-{
-    let ends = b < 11;
-    if ends { 1 } else { 0 }
-}
-
-// Where line n starts; the text's end if there is none.
-#[tactic(auto, using(crate::proofs::lines::Found::line_starts, crate::proofs::lines::Found::line_passes, crate::proofs::lines::Found::text_ends))]
-fn start_of(text: &[u8], n: usize) -> usize
-    ensures { Place drop text.now (from_line n text.now) result }
+// The text from its line n on; nothing if there is none.
+fn from_line(text: &[u8], n: usize) -> &[u8]
+    ensures { result.now ≡ from_line n text.now }
 {
     let mut left = n;
-    let mut i = 0;
-    while i < text.len() {
+    for (i, b) in text.iter().enumerate() {
         if left == 0 {
-            return i;
+            return &text[i..];
         }
-        left -= line_end(text[i]);
-        i += 1;
+        left -= usize::from(*b < 11);
     }
-    i
+    &[]
 }
 
 // Line n, counted from 0, without its end; nothing if there is none.
 pub fn line_of(text: &[u8], n: usize) -> &[u8]
     ensures { result.now ≡ line_of text.now n }
 {
-    let from = start_of(text, n);
-    let rest = &text[from..];
-    let to = end_of(rest, 11);
-    &rest[..to]
+    until(from_line(text, n), 11)
 }
 
 // Whether a word starts here and is this one.
@@ -59,29 +39,21 @@ pub fn line_of(text: &[u8], n: usize) -> &[u8]
 fn names(starts: bool, text: &[u8], word: &[u8]) -> bool
     ensures { result ≡ names starts text.now word.now }
 {
-    if starts {
-        let to = end_of(text, 33);
-        return same(&text[..to], word);
-    }
-    false
+    starts && until(text, 33) == word
 }
 
-// The number of the line that holds the word, counted from 1; 0 if none does.
-pub fn number_of(text: &[u8], word: &[u8]) -> usize
+// The number of the line that holds the word, counted from 1.
+pub fn number_of(text: &[u8], word: &[u8]) -> Option<usize>
     ensures { result ≡ number_of text.now word.now }
 {
-    let mut n: usize = 0;
+    let mut n = 0;
     let mut starts = true;
-    let mut i = 0;
-    while i < text.len() {
-        let here = names(starts, &text[i..], word);
-        if here {
-            return n + 1;
+    for (i, b) in text.iter().enumerate() {
+        if names(starts, &text[i..], word) {
+            return Some(n + 1);
         }
-        let b = text[i];
-        n += line_end(b);
-        starts = b < 33;
-        i += 1;
+        n += usize::from(*b < 11);
+        starts = *b < 33;
     }
-    0
+    None
 }

@@ -1,26 +1,29 @@
-// Bytes written to a lent slice from a place on; each function answers the next place. What does not fit is left out.
-ghost use Rattle.std.specs.Prelude.{◌≡◌, ◌∷◌, []};
-ghost use Rattle.text.specs.Page.{page, Wrote};
+// A lent slice with the next place to write to; each method moves that place on. What does not fit is left out.
+ghost use Rattle.std.specs.Prelude.{◌∷◌, []};
+ghost use Rattle.text.specs.Put.{Put};
 
-#[tactic(auto, using(crate::proofs::page::Written::with_room, crate::proofs::page::Written::without_room))]
-pub(crate) fn put_byte(out: &mut [u8], at: usize, b: u8) -> usize
-    ensures { Wrote (page at out.old) (b ∷ []) (page result out.new) }
-{
-    if out.len() <= at {
-        return at;
-    }
-    out[at] = b;
-    at + 1
+#[derive(Drop)]
+pub struct Page<'a> {
+    pub bytes: &'a mut [u8],
+    pub at: usize,
 }
 
-pub fn put(out: &mut [u8], at: usize, text: &[u8]) -> usize
-    ensures { Wrote (page at out.old) text.now (page result out.new) }
-{
-    let mut next = at;
-    let mut i = 0;
-    while i < text.len() {
-        next = put_byte(out, next, text[i]);
-        i += 1;
+impl Page<'_> {
+    #[tactic(auto, using(crate::proofs::page::Written::with_room, crate::proofs::page::Written::without_room))]
+    pub(crate) fn put_byte(&mut self, b: u8)
+        ensures { Put self.old self.new (b ∷ []) }
+    {
+        if self.at < self.bytes.len() {
+            self.bytes[self.at] = b;
+            self.at += 1;
+        }
     }
-    next
+
+    pub fn put(&mut self, text: &[u8])
+        ensures { Put self.old self.new text.now }
+    {
+        for b in text {
+            self.put_byte(*b);
+        }
+    }
 }

@@ -8,12 +8,12 @@ use lib.Dec.{eqb, ltb}
 use borrow.Author.Tests.{le-ltb}
 use Rattle.text.specs.Page.{choose}
 use Rattle.text.specs.Hex.{glyph, hex4}
-use Rattle.text.specs.declared.number.Number.TheVariants.{Is}
+use Rattle.std.specs.Prelude.{Ok}
 use Rattle.text.specs.declared.number.Digit.{Digit}
 use Rattle.text.specs.declared.number.Digit.TheVariants as digit
 use Rattle.text.specs.declared.number.Reading.{Reading}
 use Rattle.text.specs.declared.number.Reading.TheVariants.{Prefix, Hex}
-use Rattle.text.specs.Number.{digit_of, grown, hexadecimal, read_hex, read_byte, reads, ended}
+use Rattle.text.specs.Number.{digit_of, grown, going_on, hexadecimal, read_hex, read_byte, reads, ended}
 use Rattle.text.specs.Address.{is_digit, all_digits, is_x, hex_in, plain_in, mark_of, address_in}
 use Rattle.text.proofs.hex.Sixteen.{agree}
 use Rattle.text.proofs.address.Mark.{plain}
@@ -45,11 +45,11 @@ unfolding read_hex
 either true value d = refl
 either false value d = refl
 
-fits : (value d : ℕ) → value < 4096 → d < 16 → hexadecimal (grown value true d) ≡ Hex (value * 16 + d)
-unfolding hexadecimal grown
+fits : (value d : ℕ) → value < 4096 → d < 16 → hexadecimal (grown value true d) ≡ Ok (Hex (value * 16 + d))
+unfolding grown
 fits value d small digit = simp (le-ltb 4294967295 value (omega arith), le-ltb 4294967295 (value * 16 + d) (omega arith))
 
-one_more : (value d : ℕ) → value < 4096 → d < 16 → read_hex value (digit_of (glyph d)) ≡ Hex (value * 16 + d)
+one_more : (value d : ℕ) → value < 4096 → d < 16 → read_hex value (digit_of (glyph d)) ≡ Ok (Hex (value * 16 + d))
 one_more value d small digit = ap (read_hex value) (as_digit d digit) ∙ either (ltb d 10) value d ∙ fits value d small digit
 
 and_false : (a : Bool) → a && false ≡ false
@@ -65,26 +65,25 @@ module _ (x y z w : ℕ) (hx : x < 16) (hy : y < 16) (hz : z < 16) (hw : w < 16)
   worth = ((x * 16 + y) * 16 + z) * 16 + w
 
   digits : all_digits true four ≡ true
-  unfolding all_digits
   digits = simp (glyph_is_digit x hx, glyph_is_digit y hy, glyph_is_digit z hz, glyph_is_digit w hw)
 
-  first : read_byte Prefix (glyph x) ≡ Hex x
+  first : read_byte Prefix (glyph x) ≡ Ok (Hex x)
   unfolding read_byte
-  first = one_more 0 x (omega arith) hx ∙ ap Hex (omega arith)
+  first = one_more 0 x (omega arith) hx ∙ ap (λ (n : ℕ). Ok (Hex n)) (omega arith)
 
-  next : (value d : ℕ) → value < 4096 → d < 16 → read_byte (Hex value) (glyph d) ≡ Hex (value * 16 + d)
+  next : (value d : ℕ) → value < 4096 → d < 16 → read_byte (Hex value) (glyph d) ≡ Ok (Hex (value * 16 + d))
   unfolding read_byte
   next = one_more
 
-  read : reads Prefix four ≡ Hex worth
+  read : reads Prefix four ≡ Ok (Hex worth)
   unfolding reads
   read =
-      ap (λ (r : Reading). reads r (glyph y ∷ glyph z ∷ glyph w ∷ [])) first
-      ∙ ap (λ (r : Reading). reads r (glyph z ∷ glyph w ∷ [])) (next x y (omega arith) hy)
-      ∙ ap (λ (r : Reading). reads r (glyph w ∷ [])) (next (x * 16 + y) z (omega arith) hz)
-      ∙ next ((x * 16 + y) * 16 + z) w (omega arith) hw
+      ap (going_on (λ (r : Reading). reads r (glyph y ∷ glyph z ∷ glyph w ∷ []))) first
+      ∙ ap (going_on (λ (r : Reading). reads r (glyph z ∷ glyph w ∷ []))) (next x y (omega arith) hy)
+      ∙ ap (going_on (λ (r : Reading). reads r (glyph w ∷ []))) (next (x * 16 + y) z (omega arith) hz)
+      ∙ ap (going_on (λ (r : Reading). reads r [])) (next ((x * 16 + y) * 16 + z) w (omega arith) hw)
 
-  as_hex : hex_in four ≡ Is worth
+  as_hex : hex_in four ≡ Ok worth
   unfolding hex_in ended
   as_hex = simp (digits, read)
 
@@ -99,9 +98,9 @@ module _ (x y z w : ℕ) (hx : x < 16) (hy : y < 16) (hz : z < 16) (hw : w < 16)
   unfolding plain_in
   plain_four = refl
 
-  four_read : address_in four ≡ Is worth
+  four_read : address_in four ≡ Ok worth
   four_read = sym (plain four 0 refl (sym no_mark) refl (no_dot w hw)) ∙ plain_four ∙ as_hex
 
-pub read_back : (a : ℕ) → a < 65536 → address_in (hex4 a) ≡ Is a
+pub read_back : (a : ℕ) → a < 65536 → address_in (hex4 a) ≡ Ok a
 read_back a small =
-    four_read (a / 256 / 16) (a / 256 % 16) (a % 256 / 16) (a % 256 % 16) (omega arith) (omega arith) (omega arith) (omega arith) ∙ ap Is (omega arith)
+    four_read (a / 256 / 16) (a / 256 % 16) (a % 256 / 16) (a % 256 % 16) (omega arith) (omega arith) (omega arith) (omega arith) ∙ ap Ok (omega arith)

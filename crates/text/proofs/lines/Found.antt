@@ -1,15 +1,18 @@
 -- One byte more of a line, of the lines in front, of the words: what a turn of each loop leaves to do is what was to be done.
-use mathlib.Core.Path.{◌≡◌, sym, ap, ◌∙◌}
-use mathlib.Core.Bool.{Bool, true, false}
-use mathlib.Core.List.{List, [], ◌∷◌, ◌++◌, append_assoc, append-nil}
+use mathlib.Core.Path.{◌≡◌, refl, sym, ap, ◌∙◌}
+use mathlib.Core.Bool.{Bool, true, false, cond}
+use mathlib.Core.List.{List, [], ◌∷◌}
 use Prim.Native.Nat.{ℕ, ◌+◌, ◌-◌, ◌<◌, ◌≤◌}
 use native.Mathlib.Numerals.{add-one}
 use native.Mathlib.Omega.{arith}
 use lib.Dec.{ltb}
 use lib.ListN.{length, take, drop, get_or, drop_of_length-le, length-drop}
-use lib.Seq.{drop-cons, take-suc, take_all}
-use borrow.Author.Tests.{lt-ltb, le-ltb, eq-eqb, ne_eqb}
-use Rattle.text.specs.Lines.{Place, until, line_end, from_line, names, number_from}
+use lib.Seq.{drop-cons, take_all}
+use borrow.Author.Tests.{ltb-false, eq-eqb, ne_eqb}
+use Rattle.std.specs.Prelude.{Some, None, nat_lt, position}
+use Rattle.std.specs.Int.{from_bool}
+use Rattle.std.specs.List.{position_or_len, before_first}
+use Rattle.text.specs.Lines.{line_end, from_line, names, number_from}
 
 -- a text that has a byte left, and one that has none
 pub here : (text : List ℕ) (i : ℕ) → i < length text → drop i text ≡ get_or text i 0 ∷ drop (i + 1) text
@@ -22,43 +25,45 @@ over text i none_left = drop_of_length-le text none_left
 pub rest : (text : List ℕ) (i : ℕ) → take (length text - i) (drop i text) ≡ drop i text
 rest text i = take_all (length text - i) (drop i text) (omega (arith, length-drop i text))
 
-one_more : (text : List ℕ) (i : ℕ) → i < length text → take (i + 1) text ≡ take i text ++ (get_or text i 0 ∷ [])
-one_more text i more = ap (λ (n : ℕ). take n text) (add-one i) ∙ take-suc text i 0 more
+-- what stands in front of the first byte that a test finds, and all where it finds none
+module _ (test : ℕ → Bool) (text : List ℕ) where
+  found_by : (t : Bool) (to i : ℕ) → Some to ≡ cond t (Some i) None → take to text ≡ take i text
+  found_by true to i e = cc
+  found_by false to i e = cc
 
--- in front of the first byte below `end`: one byte more, the byte itself, and the text's end
-module _ (text : List ℕ) (end i : ℕ) (so_far : take i text ++ until end (drop i text) ≡ until end text) where
-  pub goes_on : i < length text → end ≤ get_or text i 0 → take (i + 1) text ++ until end (drop (i + 1) text) ≡ until end text
-  unfolding until
-  goes_on more high =
-      let here : until end (drop i text) ≡ get_or text i 0 ∷ until end (drop (i + 1) text) =
-      ap (until end) (here text i more) ∙ simp (le-ltb (get_or text i 0) end high)
-      in
-      ap (λ (l : List ℕ). l ++ until end (drop (i + 1) text)) (one_more text i more) ∙ append_assoc (take i text) (get_or text i 0 ∷ []) (until end (drop (i + 1) text)) ∙ ap (λ (l : List ℕ). take i text ++ l) (sym here) ∙ so_far
+  none_by : (t : Bool) (i : ℕ) → nat_lt i (length text) ≡ t → None ≡ cond t (Some i) None → text ≡ take i text
+  none_by true i past e = cc
+  none_by false i past e = sym (take_all i text (ltb-false i (length text) past))
 
-  pub stops : i < length text → get_or text i 0 < end → take i text ≡ until end text
-  unfolding until
-  stops more low = nothing_more (ap (until end) (here text i more) ∙ simp (lt-ltb (get_or text i 0) end low))
-    where
-      nothing_more : until end (drop i text) ≡ [] → take i text ≡ until end text
-      nothing_more none = sym (append-nil (take i text)) ∙ ap (λ (l : List ℕ). take i text ++ l) (sym none) ∙ so_far
+  pub found : (to : ℕ) → Some to ≡ position test text → take to text ≡ before_first test text
+  found to = found_by (nat_lt (position_or_len test text) (length text)) to (position_or_len test text)
 
-  pub at_the_end : length text ≤ i → take i text ≡ until end text
-  unfolding until
-  at_the_end none_left = sym (append-nil (take i text)) ∙ ap (λ (l : List ℕ). take i text ++ l) (sym (ap (until end) (over text i none_left))) ∙ so_far
+  pub not_found : None ≡ position test text → text ≡ before_first test text
+  not_found = none_by (nat_lt (position_or_len test text) (length text)) (position_or_len test text) refl
+
+-- a test as a number
+pub at_most_one : (t : Bool) {n : ℕ} → n ≡ from_bool t → n ≤ 1
+at_most_one true is = omega arith
+at_most_one false is = omega arith
 
 -- the lines in front: none is left, one byte more, and the text's end
 module _ (text : List ℕ) (i left : ℕ) where
-  pub starts_here : i < length text → left ≡ 0 → from_line left (drop i text) ≡ drop i text
+  starts_here : i < length text → left ≡ 0 → from_line left (drop i text) ≡ drop i text
   unfolding from_line
   starts_here more none = ap (from_line left) (here text i more) ∙ simp (eq-eqb left 0 none) (sym (here text i more))
 
-  pub line_passed : i < length text → (left ≡ 0 → ⊥) → from_line (left - line_end (get_or text i 0)) (drop (i + 1) text) ≡ from_line left (drop i text)
+  line_passed : i < length text → (left ≡ 0 → ⊥) → from_line (left - line_end (get_or text i 0)) (drop (i + 1) text) ≡ from_line left (drop i text)
   unfolding from_line
   line_passed more some = sym (ap (from_line left) (here text i more) ∙ simp (ne_eqb left 0 some))
 
-  pub none_there : length text ≤ i → from_line left (drop i text) ≡ drop i text
+  none_there : length text ≤ i → from_line left (drop i text) ≡ drop i text
   unfolding from_line
   none_there none_left = ap (from_line left) (over text i none_left) ∙ sym (over text i none_left)
+
+-- a place in a text, and the part that a cut leaves there: what is in front of it, or from it on
+pub record Place (cut : ℕ → List ℕ → List ℕ) (text part : List ℕ) (r : ℕ) : Type 0 where
+  pub inside : r ≤ length text
+  pub leaves : cut r text ≡ part
 
 -- a turn of the search for line n: it starts here, one byte more, and the text's end
 pub line_starts :
@@ -82,7 +87,7 @@ module _ (text word : List ℕ) (n : ℕ) (starts : Bool) (i : ℕ) where
   pub tested : {r t : Bool} → r ≡ names starts (take (length text - i) (drop i text)) word → r ≡ t → names starts (drop i text) word ≡ t
   tested said found = sym (ap (λ (l : List ℕ). names starts l word) (rest text i)) ∙ sym said ∙ found
 
-  pub word_here : i < length text → names starts (drop i text) word ≡ true → number_from n starts (drop i text) word ≡ n + 1
+  pub word_here : i < length text → names starts (drop i text) word ≡ true → number_from n starts (drop i text) word ≡ Some (n + 1)
   unfolding number_from
   word_here more named =
       let first : names starts (get_or text i 0 ∷ drop (i + 1) text) word ≡ true = ap (λ (l : List ℕ). names starts l word) (sym (here text i more)) ∙ named in
@@ -94,6 +99,6 @@ module _ (text word : List ℕ) (n : ℕ) (starts : Bool) (i : ℕ) where
       let first : names starts (get_or text i 0 ∷ drop (i + 1) text) word ≡ false = ap (λ (l : List ℕ). names starts l word) (sym (here text i more)) ∙ other in
       sym (ap (λ (l : List ℕ). number_from n starts l word) (here text i more) ∙ simp first)
 
-  pub no_word : length text ≤ i → number_from n starts (drop i text) word ≡ 0
+  pub no_word : length text ≤ i → number_from n starts (drop i text) word ≡ None
   unfolding number_from
   no_word none_left = ap (λ (l : List ℕ). number_from n starts l word) (over text i none_left)

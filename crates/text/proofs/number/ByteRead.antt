@@ -1,18 +1,26 @@
--- One turn of the loop that reads a number, and its end.
+-- One turn of the loop that reads a number, a mistake, and its end.
 use mathlib.Core.Path.{◌≡◌, sym, ap, ◌∙◌}
 use mathlib.Core.List.{List}
 use Prim.Native.Nat.{ℕ, ◌+◌, ◌<◌, ◌≤◌}
-use native.Mathlib.Numerals.{add-one}
-use lib.ListN.{length, drop, get_or, drop_of_length-le}
-use lib.Seq.{drop-cons}
+use lib.ListN.{length, drop, get_or}
+use Rattle.std.specs.Prelude.{Result, Ok, Err}
+use Rattle.text.specs.declared.number.Fault.{Fault}
 use Rattle.text.specs.declared.number.Reading.{Reading}
-use Rattle.text.specs.Number.{read_byte, reads}
+use Rattle.text.specs.Number.{going_on, read_byte, reads, ended, read_on}
+use Rattle.text.proofs.lines.Found.{here, over}
 
-pub byte_read : (r : Reading) (text : List ℕ) (i : ℕ) → i < length text → reads (read_byte r (get_or text i 0)) (drop (i + 1) text) ≡ reads r (drop i text)
-unfolding reads
-byte_read r text i more =
-    ap (λ (n : ℕ). reads (read_byte r (get_or text i 0)) (drop n text)) (add-one i) ∙ sym (ap (λ (l : List ℕ). reads r l) (drop-cons text i 0 more))
+-- what has been read in front of i, and the bytes from i on, come to what the whole text comes to
+module _ (before r : Reading) (text : List ℕ) (i : ℕ) (so_far : reads r (drop i text) ≡ reads before text) where
+  next : i < length text → {read : Result Reading Fault} → read ≡ read_byte r (get_or text i 0) → going_on (λ s. reads s (drop (i + 1) text)) read ≡ reads before text
+  unfolding reads
+  next more said = ap (going_on (λ s. reads s (drop (i + 1) text))) said ∙ sym (ap (reads r) (here text i more)) ∙ so_far
 
-pub all_read : (r : Reading) (text : List ℕ) (i : ℕ) → length text ≤ i → reads r (drop i text) ≡ r
-unfolding reads
-all_read r text i end = ap (λ (l : List ℕ). reads r l) (drop_of_length-le text end)
+  pub goes_on : i < length text → {s : Reading} → Ok s ≡ read_byte r (get_or text i 0) → reads s (drop (i + 1) text) ≡ reads before text
+  goes_on more said = next more said
+
+  pub stops : i < length text → {fault : Fault} → Err fault ≡ read_byte r (get_or text i 0) → Err fault ≡ read_on before text
+  stops more said = ap (going_on ended) (next more said)
+
+  pub ends : length text ≤ i → ended r ≡ read_on before text
+  unfolding reads
+  ends none_left = ap (going_on ended) (sym (ap (reads r) (over text i none_left)) ∙ so_far)

@@ -4,9 +4,11 @@ use mathlib.Core.List.{List, [], ◌∷◌, ◌++◌}
 use Prim.Native.Nat.{ℕ, ◌+◌, ◌<◌, ◌≤◌}
 use native.Mathlib.Numerals.{add-one}
 use lib.ListN.{length, take, get_or, set}
-use lib.Seq.{take-suc, take_all}
+use lib.Seq.{take-suc}
 use borrow.Author.Tests.{lt-ltb, le-ltb}
 use Rattle.text.specs.Page.{Page, page, put_byte, written, Wrote}
+use Rattle.text.specs.declared.page.Page.{Page as Slice}
+use Rattle.text.specs.Put.{Put}
 
 pub written_append : (p : Page) (xs ys : List ℕ) → written p (xs ++ ys) ≡ written (written p xs) ys
 written_append p [] ys = refl
@@ -29,10 +31,26 @@ pub without_room : (at : ℕ) (out : List ℕ) (b : ℕ) → length out ≤ at �
 unfolding put_byte
 without_room at out b full = record { is = simp (le-ltb at (length out) full) }
 
--- one turn of the loop that writes a text, and its end
-pub one_more : {p q r : Page} (text : List ℕ) (i : ℕ) → i < length text → Wrote p (take i text) q → Wrote q (get_or text i 0 ∷ []) r → Wrote p (take (i + 1) text) r
-one_more {p} {q} {r} text i more so_far byte =
-    subst (λ (l : List ℕ). Wrote p l r) (sym (take-suc text i 0 more) ∙ ap (λ (n : ℕ). take n text) (sym (add-one i))) (so_far ⨾ byte)
+-- the same of a page that keeps its slice
+pub and_then : {p q r : Slice} {xs ys : List ℕ} → Put p q xs → Put q r ys → Put p r (xs ++ ys)
+and_then first second =
+    record { same_slice = second.same_slice ∙ first.same_slice; wrote = first.wrote ⨾ second.wrote }
 
-pub all_of_it : {p q : Page} (text : List ℕ) (i : ℕ) → length text ≤ i → Wrote p (take i text) q → Wrote p text q
-all_of_it {p} {q} text i none_left so_far = subst (λ (l : List ℕ). Wrote p l q) (take_all i text none_left) so_far
+-- one turn of the loop that writes a text
+pub one_more : {p q r : Slice} (text : List ℕ) (i : ℕ) → i < length text → Put p q (take i text) → Put q r (get_or text i 0 ∷ []) → Put p r (take (i + 1) text)
+one_more {p} {q} {r} text i more so_far byte =
+    subst (λ (l : List ℕ). Put p r l) (sym (take-suc text i 0 more) ∙ ap (λ (n : ℕ). take n text) (sym (add-one i))) (and_then so_far byte)
+
+-- a page that has the slice of the page before: with what is left, it comes to what all would have come to
+pub record Leads (before : Slice) (all : List ℕ) (now : Slice) (left : List ℕ) : Type 0 where
+  pub same_slice : now.bytes.ghost_name ≡ before.bytes.ghost_name
+  pub comes : written (page now.at now.bytes.now) left ≡ written (page before.at before.bytes.now) all
+
+pub goes_on : {before p q : Slice} {all part rest : List ℕ} → Leads before all p (part ++ rest) → Put p q part → Leads before all q rest
+goes_on {before} {p} {q} {all} {part} {rest} so_far put = record {
+  same_slice = put.same_slice ∙ so_far.same_slice;
+  comes = ap (λ (x : Page). written x rest) put.wrote.is ∙ sym (written_append (page p.at p.bytes.now) part rest) ∙ so_far.comes;
+}
+
+pub done : {before p : Slice} {all : List ℕ} → Leads before all p [] → Put before p all
+done so_far = record { same_slice = so_far.same_slice; wrote = record { is = so_far.comes } }
