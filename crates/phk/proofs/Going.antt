@@ -1,8 +1,7 @@
 -- A run that is asked for in pieces is the definition's run: the first piece, one piece more, and a piece that stopped it.
-use Rattle.std.proofs.Common.{◌≡◌, ℕ, ◌+◌, ◌-◌, ◌%◌, ◌^◌, ◌<◌, ◌≤◌, Bool, true, false, ◌||◌, List, length, sym, refl, ap, ◌∙◌, subst, arith, if◌then◌else◌}
+use Rattle.std.proofs.Common.{◌≡◌, ℕ, ◌+◌, ◌-◌, ◌%◌, ◌^◌, ◌<◌, ◌≤◌, Bool, true, false, ◌||◌, List, length, sym, refl, ap, ◌∙◌, subst, arith, Option, Some, None, is_none, if◌then◌else◌}
 use Rattle.sm83.specs.declared.Cpu.{Cpu}
-use Rattle.outcome.specs.declared.LastOutcome.{LastOutcome}
-use Rattle.outcome.specs.declared.LastOutcome.TheVariants.{NothingRun, Last}
+use Rattle.outcome.specs.declared.Outcome.{Outcome}
 use Rattle.definition.specs.Bus.{plain}
 use Rattle.definition.specs.Run.{stops_last, RunAnswer, run_for}
 use Rattle.definition.proofs.Split.{followed_by}
@@ -16,7 +15,7 @@ use Rattle.watch.specs.Reasons.{WatchAnswer, watch_on, watch_answer}
 use Rattle.phk.specs.declared.within.Seen.{Seen}
 use Rattle.phk.specs.Watching.{Went, Leaves}
 use Rattle.phk.specs.declared.far.Cut.{Cut}
-use Rattle.phk.specs.declared.far.Cut.TheVariants.{Not, Lost, ByHand, Outside}
+use Rattle.phk.specs.declared.far.Cut.TheVariants.{Lost, ByHand, Outside}
 use Rattle.phk.specs.declared.far.Far.{Far}
 use Rattle.phk.specs.SoFar.{so_far, counted, begun, is_cut, is_over, later, farther, farther_by, cut_as, cut_unless, Came}
 use Rattle.phk.specs.Status.{bad_file, refusal_of, status_of, status_for, Ends}
@@ -31,9 +30,9 @@ if_not p q e = ap (λ (t : Bool). if t then p else q) e
 kept_sum : (a b : ℕ) → (a % 2 ^ 64 + b) % 2 ^ 64 ≡ (a + b) % 2 ^ 64
 kept_sum a b = omega arith
 
-nothing_before : (o : LastOutcome) → later NothingRun o ≡ o
-nothing_before NothingRun = refl
-nothing_before (Last p) = refl
+nothing_before : (o : Option Outcome) → later None o ≡ o
+nothing_before None = refl
+nothing_before (Some p) = refl
 
 -- a cut run has come as far as before
 as_far : (written : Bool) (f : Far) (m : List ℕ) → so_far (cut_unless written f) m ≡ so_far f m
@@ -171,17 +170,17 @@ as_asked n n' s s' w f m e e' came = subst (λ (k : ℕ). Came k s' w f m) e (su
 
 -- what the tool answers to a run
 
-small_uncut : (c : Cut) (l : LastOutcome) → status_for c l < 2 → is_cut c ≡ false
-small_uncut Not l h = refl
-small_uncut Lost l h = absurd (omega arith)
-small_uncut ByHand l h = absurd (omega arith)
-small_uncut Outside l h = absurd (omega arith)
+small_uncut : (c : Option Cut) (l : Option Outcome) → status_for c l < 2 → is_cut c ≡ false
+small_uncut None l h = refl
+small_uncut (Some Lost) l h = absurd (omega arith)
+small_uncut (Some ByHand) l h = absurd (omega arith)
+small_uncut (Some Outside) l h = absurd (omega arith)
 
-small_runs : (c : Cut) (l : LastOutcome) → status_for c l < 2 → status_for c l ≡ status_of (refusal_of l)
-small_runs Not l h = refl
-small_runs Lost l h = absurd (omega arith)
-small_runs ByHand l h = absurd (omega arith)
-small_runs Outside l h = absurd (omega arith)
+small_runs : (c : Option Cut) (l : Option Outcome) → status_for c l < 2 → status_for c l ≡ status_of (refusal_of l)
+small_runs None l h = refl
+small_runs (Some Lost) l h = absurd (omega arith)
+small_runs (Some ByHand) l h = absurd (omega arith)
+small_runs (Some Outside) l h = absurd (omega arith)
 
 module _ (steps : ℕ) (s : Cpu) (w : List ℕ) (f : Far) (m : List ℕ) (r status : ℕ) (came : Came steps s w f m) (said : status ≡ status_for f.cut f.last) (kept : (r ≡ bad_file → ⊥) → r ≡ status) where
   is_said : r < 2 → r ≡ status_for f.cut f.last

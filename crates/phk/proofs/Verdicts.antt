@@ -2,7 +2,7 @@
 use Rattle.std.proofs.Common.{◌≡◌, ℕ, suc, ◌+◌, ◌-◌, ◌<◌, min, Bool, true, false, not, eqb, ltb, List, length, replicate, sym, refl, ap, ◌∙◌, arith, ltb-false, if◌then◌else◌}
 use lib.ListN.{length-replicate}
 use Rattle.routine.specs.declared.ScreenRefusal.TheVariants.{MemoryLength, WindowReversed, WindowTooLong, MarksLength}
-use Rattle.routine.specs.declared.Verdict.{Verdict}
+use Rattle.routine.specs.Verdict.{Verdict}
 use Rattle.routine.specs.Screen.{Screened, untouched, longest_window, verdict, screen}
 use Rattle.phk.specs.Window.{behind}
 

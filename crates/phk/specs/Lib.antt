@@ -5,10 +5,12 @@ pub mod Status
 pub mod Window
 pub mod Images
 pub mod Values
+pub mod Ended
 pub mod Looking
 pub mod Counts
 pub mod Targets
 pub mod View
 pub mod Noted
+pub mod Places
 pub mod Shown
 pub mod Watching

@@ -1,13 +1,12 @@
 -- How far a run has come, as the tool keeps it, and which run of the definition that is.
-use Rattle.std.specs.Prelude.{◌≡◌, ℕ, ◌+◌, ◌-◌, ◌%◌, ◌^◌, ◌<◌, ◌≤◌, min, Bool, true, false, ◌||◌, List, nat_le, if◌then◌else◌}
+use Rattle.std.specs.Prelude.{◌≡◌, ℕ, ◌+◌, ◌-◌, ◌%◌, ◌^◌, ◌<◌, ◌≤◌, min, Bool, true, false, ◌||◌, List, nat_le, Option, Some, None, is_some, if◌then◌else◌}
 use Rattle.sm83.specs.declared.Cpu.{Cpu}
-use Rattle.outcome.specs.declared.LastOutcome.{LastOutcome}
-use Rattle.outcome.specs.declared.LastOutcome.TheVariants.{NothingRun, Last}
+use Rattle.outcome.specs.declared.Outcome.{Outcome}
 use Rattle.definition.specs.Bus.{plain}
 use Rattle.definition.specs.Run.{stops_last, RunAnswer, run_for}
 use Rattle.run.specs.declared.Ran.{Ran}
 use Rattle.phk.specs.declared.far.Cut.{Cut}
-use Rattle.phk.specs.declared.far.Cut.TheVariants.{Not, Lost, ByHand, Outside}
+use Rattle.phk.specs.declared.far.Cut.TheVariants.{Lost}
 use Rattle.phk.specs.declared.far.Far.{Far}
 
 -- with memory as it stands, a run's answer
@@ -19,28 +18,25 @@ abbrev pub counted : RunAnswer (List ℕ) → RunAnswer (List ℕ)
 counted r = record { last = r.last; cpu = r.cpu; memory = r.memory; steps = r.steps % 2 ^ 64; cycles = r.cycles % 2 ^ 64 }
 
 abbrev pub begun : Cpu → Far
-begun s = record { cpu = s; last = NothingRun; steps = 0; cycles = 0; cut = Not }
+begun s = record { cpu = s; last = None; steps = 0; cycles = 0; cut = None }
 
-abbrev pub is_cut : Cut → Bool
-is_cut Not = false
-is_cut Lost = true
-is_cut ByHand = true
-is_cut Outside = true
+abbrev pub is_cut : Option Cut → Bool
+is_cut cut = is_some cut
 
 -- it goes no further: it has stopped by itself, or was cut
 abbrev pub is_over : Far → Bool
 is_over f = stops_last f.last || is_cut f.cut
 
-abbrev pub cut_as : Far → Cut → Far
+abbrev pub cut_as : Far → Option Cut → Far
 cut_as f c = record { cpu = f.cpu; last = f.last; steps = f.steps; cycles = f.cycles; cut = c }
 
 abbrev pub cut_unless : Bool → Far → Far
-cut_unless written f = if written then f else cut_as f Lost
+cut_unless written f = if written then f else cut_as f (Some Lost)
 
 -- the last outcome of two pieces: a piece of no steps has none
-abbrev pub later : LastOutcome → LastOutcome → LastOutcome
-later o NothingRun = o
-later o (Last p) = Last p
+abbrev pub later : Option Outcome → Option Outcome → Option Outcome
+later o None = o
+later o (Some p) = Some p
 
 -- so far, and then one piece more
 abbrev pub farther : Far → Ran → Far

@@ -1,20 +1,21 @@
 -- The tool's last word, its status, and when it is which; and what the launcher's word says.
-use Rattle.std.specs.Prelude.{◌≡◌, ℕ, ◌<◌, ◌≤◌, Bool, true, false, ◌&&◌, List, length, ◌==◌, nat_lt, slice_index, if◌then◌else◌}
+use Rattle.std.specs.Prelude.{◌≡◌, ℕ, ◌<◌, ◌≤◌, Bool, true, false, ◌&&◌, List, length, ◌==◌, nat_eq, nat_lt, slice_index, Option, Some, None, is_none, Result, Ok, Err, if◌then◌else◌}
+use Rattle.outcome.specs.declared.Refusal.{Refusal}
 use Rattle.outcome.specs.declared.Outcome.{Outcome}
 use Rattle.outcome.specs.declared.Outcome.TheVariants.{Normal, InfiniteLoop, Halting, RunningHDMA, Stopped, RunningInterrupt, Breakpoint, Refused}
-use Rattle.outcome.specs.declared.LastOutcome.{LastOutcome}
-use Rattle.outcome.specs.declared.LastOutcome.TheVariants.{NothingRun, Last}
-use Rattle.outcome.specs.Numbers.{number_of}
 use Rattle.sm83.specs.declared.Cpu.{Cpu}
 use Rattle.definition.specs.Bus.{plain}
 use Rattle.definition.specs.Run.{run_for}
 use Rattle.commandline.specs.declared.grammar.Command.{Command}
 use Rattle.commandline.specs.declared.grammar.Command.TheVariants as command
+use Rattle.commandline.specs.declared.line.Mistake.{Mistake}
 use Rattle.commandline.specs.declared.finish.Asked.{Asked}
 use Rattle.commandline.specs.declared.finish.Asked.TheVariants as asked
 use Rattle.phk.specs.declared.far.Cut.{Cut}
-use Rattle.phk.specs.declared.far.Cut.TheVariants.{Not, Lost, ByHand, Outside}
+use Rattle.phk.specs.declared.far.Cut.TheVariants.{Lost, ByHand, Outside}
 use Rattle.phk.specs.declared.said.Env.{Env}
+use Rattle.phk.specs.declared.said.Status.{Status}
+use Rattle.phk.specs.declared.said.Status.TheVariants as word
 
 abbrev pub done : ℕ
 done = 0
@@ -37,38 +38,55 @@ lost_output = 5
 abbrev pub stopped_by_hand : ℕ
 stopped_by_hand = 130
 
--- the number of the refusal that ended a step or a run; 0 if none did
-abbrev pub refusal_in : Outcome → ℕ
-refusal_in Normal = 0
-refusal_in InfiniteLoop = 0
-refusal_in Halting = 0
-refusal_in RunningHDMA = 0
-refusal_in Stopped = 0
-refusal_in (RunningInterrupt i) = 0
-refusal_in (Breakpoint r) = 0
-refusal_in (Refused r) = number_of r
+-- 128 and the number of the signal that ends a program whose reader goes away
+abbrev pub reader_gone : ℕ
+reader_gone = 141
 
-abbrev pub refusal_of : LastOutcome → ℕ
-refusal_of NothingRun = 0
-refusal_of (Last o) = refusal_in o
+abbrev pub status_number : Status → ℕ
+status_number word.Done = done
+status_number word.Refused = refused
+status_number word.BadUsage = bad_usage
+status_number word.BadFile = bad_file
+status_number word.LostOutput = lost_output
+status_number word.StoppedByHand = stopped_by_hand
+status_number word.ReaderGone = reader_gone
 
--- the status that a refusal's number stands for; 0 is none
-abbrev pub status_of : ℕ → ℕ
-status_of n = if n == 0 then done else refused
+-- the refusal that ended a step or a run, if one did
+abbrev pub refusal_in : Outcome → Option Refusal
+refusal_in Normal = None
+refusal_in InfiniteLoop = None
+refusal_in Halting = None
+refusal_in RunningHDMA = None
+refusal_in Stopped = None
+refusal_in (RunningInterrupt i) = None
+refusal_in (Breakpoint r) = None
+refusal_in (Refused r) = Some r
+
+abbrev pub refusal_of : Option Outcome → Option Refusal
+refusal_of None = None
+refusal_of (Some o) = refusal_in o
+
+-- the status of what passes, or is refused
+abbrev pub status_if : Bool → ℕ
+status_if passes = if passes then done else refused
+
+-- the status that a refusal stands for, or none
+abbrev pub status_of : Option Refusal → ℕ
+status_of refusal = status_if (is_none refusal)
 
 -- the status of a run that was cut, or came to its end
-abbrev pub status_for : Cut → LastOutcome → ℕ
-status_for Not last = status_of (refusal_of last)
-status_for Lost last = lost_output
-status_for ByHand last = stopped_by_hand
-status_for Outside last = bad_file
+abbrev pub status_for : Option Cut → Option Outcome → ℕ
+status_for None last = status_of (refusal_of last)
+status_for (Some Lost) last = lost_output
+status_for (Some ByHand) last = stopped_by_hand
+status_for (Some Outside) last = bad_file
 
 -- a run that a person stopped, or whose trace was lost, leaves no file
-abbrev pub keeps_file : Cut → Bool
-keeps_file Not = true
-keeps_file Lost = false
-keeps_file ByHand = false
-keeps_file Outside = true
+abbrev pub keeps_file : Option Cut → Bool
+keeps_file None = true
+keeps_file (Some Lost) = false
+keeps_file (Some ByHand) = false
+keeps_file (Some Outside) = true
 
 -- the status, unless memory could not be saved
 abbrev pub unless_lost : Bool → ℕ → ℕ
@@ -92,10 +110,10 @@ Obeyed command.Demo status = status ≡ bad_usage
 Obeyed command.Version status = status ≡ done
 Obeyed command.Help status = status ≡ done
 
-abbrev pub Answered : Asked → ℕ → Type 0
-Answered (asked.Help c) status = status ≡ done
-Answered (asked.Obey c) status = Obeyed c status
-Answered (asked.Mistaken m) status = status ≡ bad_usage
+abbrev pub Answered : Result Asked Mistake → ℕ → Type 0
+Answered (Ok (asked.Help c)) status = status ≡ done
+Answered (Ok (asked.Obey c)) status = Obeyed c status
+Answered (Err m) status = status ≡ bad_usage
 
 -- The launcher's word: @, then c for colours, p for progress, s if the last word is wanted, w for lines of up to 100 columns. Without it the first word is the command line's own.
 

@@ -1,36 +1,37 @@
--- What stands at the name that --out gives, and where memory may be written: to a new name, or to a file that the caller may write and that is not the image.
-use Rattle.std.specs.Prelude.{ℕ, ◌/◌, ◌%◌, Bool, true, false, not, ◌&&◌, ◌==◌, nat_eq, if◌then◌else◌}
+-- Why memory may not be written at the name that --out gives: it is written to a new name, or to a file that the caller may write and that is not the image.
+use Rattle.std.specs.Prelude.{ℕ, ◌/◌, ◌%◌, Bool, true, false, ◌&&◌, ◌||◌, ◌==◌, Option, Some, None, Result, Ok, Err, if◌then◌else◌}
+use Rattle.phk.specs.declared.look.Kind.{Kind}
+use Rattle.phk.specs.declared.look.Kind.TheVariants as kind
 use Rattle.phk.specs.declared.look.Looked.{Looked}
-use Rattle.phk.specs.declared.saving.Target.{Target}
-use Rattle.phk.specs.declared.saving.Target.TheVariants.{Nothing, Link, Folder, NoFile, TheImage, ReadOnly, NotYours, File}
-
--- the bits of a mode from the thirteenth on
-abbrev pub kind_in : ℕ → ℕ
-kind_in mode = mode / 4096 % 16
+use Rattle.phk.specs.declared.saving.WhyNot.{WhyNot}
+use Rattle.phk.specs.declared.saving.WhyNot.TheVariants.{Link, Folder, NoFile, TheImage, ReadOnly, NotYours}
+use Rattle.phk.specs.Looking.{kind_of}
 
 -- its eighth, fifth and second bit
 abbrev pub nobody_writes : ℕ → Bool
 nobody_writes mode = mode / 128 % 2 == 0 && mode / 16 % 2 == 0 && mode / 2 % 2 == 0
 
-abbrev pub same_file : Looked → Looked → Bool
-same_file a b = b.found && a.dev == b.dev && a.ino == b.ino
+abbrev pub same_file : Looked → Option Looked → Bool
+same_file a None = false
+same_file a (Some b) = a.dev == b.dev && a.ino == b.ino
 
-abbrev pub target_of : Looked → Looked → Bool → Target
-target_of there image may =
-    if not there.found then Nothing else
-    (if nat_eq (kind_in there.mode) 10 then Link else
-    (if nat_eq (kind_in there.mode) 4 then Folder else
-    (if not (kind_in there.mode == 8) then NoFile else
-    (if same_file there image then TheImage else
-    (if nobody_writes there.mode then ReadOnly else
-    (if may then File else NotYours))))))
+-- a file's rights, and whose it is
+abbrev pub file_target : Looked → Option Looked → Bool → Result (Unit {0}) WhyNot
+file_target there image may =
+    if same_file there image then Err TheImage else (if nobody_writes there.mode then Err ReadOnly else (if may then Ok tt else Err NotYours))
 
-abbrev pub is_free : Target → Bool
-is_free Nothing = true
-is_free Link = false
-is_free Folder = false
-is_free NoFile = false
-is_free TheImage = false
-is_free ReadOnly = false
-is_free NotYours = false
-is_free File = true
+abbrev pub target_as : Kind → Looked → Option Looked → Bool → Result (Unit {0}) WhyNot
+target_as kind.Link there image may = Err Link
+target_as kind.Folder there image may = Err Folder
+target_as kind.Other there image may = Err NoFile
+target_as kind.File there image may = file_target there image may
+
+abbrev pub target_of : Option Looked → Option Looked → Bool → Result (Unit {0}) WhyNot
+target_of None image may = Ok tt
+target_of (Some there) image may = target_as (kind_of there.mode) there image may
+
+-- a file's owner may write it, and who may do anything
+abbrev pub owns : Option Looked → Option Looked → Bool
+owns None there = false
+owns (Some user) None = false
+owns (Some user) (Some there) = user.uid == 0 || user.uid == there.uid

@@ -1,7 +1,6 @@
 -- Which bytes of memory an image has, and when a run goes step by step.
-use Rattle.std.specs.Prelude.{ℕ, ◌+◌, Bool, false, not, ◌&&◌, ◌||◌, nat_le, if◌then◌else◌}
-use Rattle.map.specs.declared.passing.Passing.{Passing}
-use Rattle.map.specs.declared.passing.Passing.TheVariants.{Never, UpTo}
+use Rattle.std.specs.Prelude.{ℕ, ◌+◌, Bool, false, not, ◌&&◌, ◌||◌, nat_le, Option, Some, None, if◌then◌else◌}
+use Rattle.sm83.specs.declared.Addr.{Addr}
 use Rattle.phk.specs.Window.{behind}
 use Rattle.opcodes.specs.Instruction.{decode, length_of}
 use Rattle.phk.specs.declared.view.Held.{Held}
@@ -26,6 +25,6 @@ abbrev pub is_single : View → Bool
 is_single v = v.trace || not (is_whole v.held)
 
 -- a last address with which a window would pass counts if the image has the whole window
-abbrev pub held_alone : Held → ℕ → Passing → Passing
-held_alone h first Never = Never
-held_alone h first (UpTo last) = if holds h first (behind last.0 first + 1) then UpTo last else Never
+abbrev pub held_alone : Held → ℕ → Option Addr → Option Addr
+held_alone h first None = None
+held_alone h first (Some last) = if holds h first (behind last.0 first + 1) then Some last else None

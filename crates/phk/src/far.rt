@@ -1,17 +1,16 @@
 // How far a run has come, and how it goes on.
-ghost use Rattle.std.specs.Prelude.{◌≡◌, ◌<◌};
-ghost use Rattle.phk.specs.SoFar.{is_cut, is_over, begun, later, farther, cut_as, cut_unless, Piece};
+ghost use Rattle.std.specs.Prelude.{◌≡◌, ◌<◌, Some};
+ghost use Rattle.phk.specs.SoFar.{is_over, begun, later, farther, cut_as, cut_unless, Piece};
 
-use outcome::LastOutcome;
+use outcome::Outcome;
 use run::Ran;
 use run::ending::stops_last;
 use sm83::Cpu;
 
-// Why a run was ended before its last step: it was not; a line of its trace could not be written; a person asked for it; the next
-// instruction is not in the image.
+// Why a run was ended before its last step: a line of its trace could not be written; a person asked for it; the next instruction is not in
+// the image.
 #[derive(Clone, Copy)]
 pub enum Cut {
-    Not,
     Lost,
     ByHand,
     Outside,
@@ -21,10 +20,10 @@ pub enum Cut {
 #[derive(Clone, Copy)]
 pub struct Far {
     pub cpu: Cpu,
-    pub last: LastOutcome,
+    pub last: Option<Outcome>,
     pub steps: u64,
     pub cycles: u64,
-    pub cut: Cut,
+    pub cut: Option<Cut>,
 }
 
 // Nothing has been run.
@@ -32,22 +31,11 @@ pub fn begun(cpu: Cpu) -> Far
     ensures { result ≡ begun cpu }
 {
     Far {
-        cpu: cpu,
-        last: LastOutcome::NothingRun,
+        cpu,
+        last: None,
         steps: 0,
         cycles: 0,
-        cut: Cut::Not,
-    }
-}
-
-pub fn is_cut(cut: Cut) -> bool
-    ensures { result ≡ is_cut cut }
-{
-    match cut {
-        Cut::Not => false,
-        Cut::Lost => true,
-        Cut::ByHand => true,
-        Cut::Outside => true,
+        cut: None,
     }
 }
 
@@ -55,23 +43,16 @@ pub fn is_cut(cut: Cut) -> bool
 pub fn over(far: Far) -> bool
     ensures { result ≡ is_over far }
 {
-    let last = far.last;
-    let cut = far.cut;
-    stops_last(last) | is_cut(cut)
+    stops_last(far.last) | far.cut.is_some()
 }
 
 // The same run, cut for a reason.
 pub fn cut_as(far: Far, cut: Cut) -> Far
-    ensures { result ≡ cut_as far cut }
+    ensures { result ≡ cut_as far (Some cut) }
 {
-    let cpu = far.cpu;
-    let last = far.last;
     Far {
-        cpu: cpu,
-        last: last,
-        steps: far.steps,
-        cycles: far.cycles,
-        cut: cut,
+        cut: Some(cut),
+        ..far
     }
 }
 
@@ -83,30 +64,22 @@ pub fn cut_unless(written: bool, far: Far) -> Far
 }
 
 // The last outcome of two pieces.
-fn later(before: LastOutcome, last: LastOutcome) -> LastOutcome
+fn later(before: Option<Outcome>, last: Option<Outcome>) -> Option<Outcome>
     ensures { result ≡ later before last }
 {
-    match last {
-        LastOutcome::NothingRun => before,
-        LastOutcome::Last(_) => last,
-    }
+    last.or(before)
 }
 
 // So far, and then one piece more.
 pub fn farther(far: Far, piece: Ran) -> Far
     ensures { result ≡ farther far piece }
 {
-    let cpu = piece.cpu;
-    let cycles = piece.cycles;
-    let before = far.last;
-    let last = piece.last;
-    let cut = far.cut;
     Far {
-        cpu: cpu,
-        last: later(before, last),
-        steps: std::num::wrapping_add_u64(far.steps, piece.steps as u64),
-        cycles: std::num::wrapping_add_u64(far.cycles, cycles.0 as u64),
-        cut: cut,
+        cpu: piece.cpu,
+        last: later(far.last, piece.last),
+        steps: far.steps.wrapping_add(u64::from(piece.steps)),
+        cycles: far.cycles.wrapping_add(u64::from(piece.cycles.0)),
+        cut: far.cut,
     }
 }
 
@@ -118,15 +91,8 @@ pub fn piece_size(left: u64, single: bool) -> u16
     requires { 0 < left }
     ensures { Piece single left result }
 {
-    if single {
+    if single | (left <= 64) {
         return 1;
     }
-    if left <= 64 {
-        return 1;
-    }
-    if left < 65599 {
-        (left - 64) as u16
-    } else {
-        65535
-    }
+    (left - 64).min(65535) as u16
 }

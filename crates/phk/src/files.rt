@@ -1,11 +1,11 @@
 // The image is read.
-ghost use Rattle.std.specs.Prelude.{◌≡◌, ◌-◌};
+ghost use Rattle.std.specs.Prelude.{◌≡◌};
 ghost use Rattle.phk.specs.Counts.{IsPrefixLen};
-ghost use Rattle.phk.specs.Images.{image_of, is_loaded};
+ghost use Rattle.phk.specs.Images.{image_of};
 
 use crate::look::text_of;
 use crate::mistakes;
-use crate::said::{Host, arg};
+use crate::said::{GivenUp, Host, arg};
 use crate::view::{Held, is_whole};
 use commandline::grammar::Part;
 use commandline::line::Line;
@@ -13,76 +13,36 @@ use std::fs::File;
 use std::io;
 use std::io::Read;
 
-fn length_of(n: usize) -> u64
-    ensures { result ≡ n }
-{
-    n as u64
+// Why a file is no image.
+#[derive(Drop)]
+pub enum NoImage {
+    Unreadable(io::Error),
+    // more than so many bytes
+    TooLong(u64),
+    // so many bytes, and no --at says where they lie
+    TooShort(u64),
 }
 
-// How many bytes there are from an address on.
-fn room_from(from: u16) -> usize
-    ensures { result ≡ 65536 - from }
-{
-    65536 - (from as usize)
-}
-
-// What was read of an image.
-#[derive(Clone, Copy)]
-enum Image {
-    Unreadable,
-    TooLong,
-    TooShort,
-    Part,
-    Whole,
-}
-
-// After n bytes a read behind the last address failed, or found more. Without --at the image is the whole memory.
-fn image_of(failed: bool, more: bool, given: bool, n: usize) -> Image
-    ensures { result ≡ image_of failed more given n }
-{
-    if failed {
-        return Image::Unreadable;
+impl From<io::Error> for NoImage {
+    fn from(e: io::Error) -> Self {
+        NoImage::Unreadable(e)
     }
+}
+
+// After n bytes a read behind the last address found more, or none. Without --at the image is the whole memory.
+fn image_of(more: bool, given: bool, from: u16, n: usize) -> Result<Held, NoImage>
+    ensures { result ≡ image_of more given from n }
+{
     if more {
-        return Image::TooLong;
+        return Err(NoImage::TooLong(65536 - u64::from(from)));
     }
-    if given {
-        return Image::Part;
+    if !given & (n < 65536) {
+        return Err(NoImage::TooShort(n as u64));
     }
-    let short = n < 65536;
-    if short {
-        return Image::TooShort;
-    }
-    Image::Whole
-}
-
-fn is_loaded(image: Image) -> bool
-    ensures { result ≡ is_loaded image }
-{
-    match image {
-        Image::Unreadable => false,
-        Image::TooLong => false,
-        Image::TooShort => false,
-        Image::Part => true,
-        Image::Whole => true,
-    }
-}
-
-fn tell_error(host: &Host, path: &[u8], e: Option<io::Error>) {
-    if let Some(e) = e {
-        mistakes::unreadable(host, path, e);
-    }
-}
-
-// The error is why an image that is not read cannot be.
-fn tell_image(host: &Host, image: Image, path: &[u8], n: usize, from: u16, e: Option<io::Error>) {
-    match image {
-        Image::Unreadable => tell_error(host, path, e),
-        Image::TooLong => mistakes::too_long(host, path, length_of(room_from(from))),
-        Image::TooShort => mistakes::too_short(host, path, length_of(n)),
-        Image::Part => {}
-        Image::Whole => {}
-    }
+    Ok(Held {
+        from,
+        length: n.min(65536) as u32,
+    })
 }
 
 fn read_on(file: &mut File) -> io::Result<usize> {
@@ -90,7 +50,7 @@ fn read_on(file: &mut File) -> io::Result<usize> {
     file.read(&mut one)
 }
 
-// Until all of it is filled, or nothing comes.
+// Until all of it is filled, or nothing comes. No `for` goes over it, since a read fills as much as it likes.
 fn read_full(file: &mut File, mem: &mut [u8]) -> usize
     ensures { IsPrefixLen result mem.new }
 {
@@ -112,78 +72,50 @@ fn read_part(file: &mut File, mem: &mut [u8], from: usize) -> usize {
     0
 }
 
-// Whether the image was read, and which bytes of memory it has.
-#[derive(Clone, Copy)]
-pub struct Loaded {
-    pub done: bool,
-    pub held: Held,
-}
-
-fn as_loaded(done: bool, from: u16, n: usize) -> Loaded {
-    let length = if n < 65536 { n as u32 } else { 65536 };
-    let held = Held {
-        from: from,
-        length: length,
-    };
-    Loaded {
-        done: done,
-        held: held,
-    }
-}
-
-fn load_from(
-    host: &Host,
-    file: &mut File,
-    path: &[u8],
-    mem: &mut [u8],
-    given: bool,
-    from: u16,
-) -> Loaded {
-    let n = read_part(file, mem, from as usize);
-    let got = read_on(file);
-    let more = match got {
-        Ok(k) => 0 < k,
-        Err(_) => false,
-    };
-    let image = image_of(got.is_err(), more, given, n);
-    tell_image(host, image, path, n, from, got.err());
-    as_loaded(is_loaded(image), from, n)
+fn load_from(file: &mut File, mem: &mut [u8], given: bool, from: u16) -> Result<Held, NoImage> {
+    let n = read_part(file, mem, usize::from(from));
+    let more = read_on(file)?;
+    image_of(0 < more, given, from, n)
 }
 
 fn open_read(host: &Host, path: &[u8]) -> io::Result<File> {
     File::open(&host.rt, text_of(path)?)
 }
 
-fn load_named(host: &Host, path: &[u8], mem: &mut [u8], given: bool, from: u16) -> Loaded {
-    match open_read(host, path) {
-        Ok(opened) => {
-            let mut file = opened;
-            load_from(host, &mut file, path, mem, given, from)
-        }
-        Err(e) => {
-            mistakes::unreadable(host, path, e);
-            as_loaded(false, from, 0)
+fn load_named(
+    host: &Host,
+    path: &[u8],
+    mem: &mut [u8],
+    given: bool,
+    from: u16,
+) -> Result<Held, NoImage> {
+    let mut file = open_read(host, path)?;
+    load_from(&mut file, mem, given, from)
+}
+
+// Which bytes of memory the image has.
+pub fn load(host: &Host, line: Line, mem: &mut [u8]) -> Result<Held, GivenUp> {
+    let path = arg(host, line.word(Part::Image, 0));
+    let path = path.as_slice();
+    match load_named(
+        host,
+        path,
+        mem,
+        line.has(Part::At),
+        line.address(Part::At, 0),
+    ) {
+        Ok(held) => Ok(held),
+        Err(why) => {
+            mistakes::no_image(host, path, why);
+            Err(GivenUp)
         }
     }
 }
 
-pub fn load(host: &Host, line: Line, mem: &mut [u8]) -> Loaded {
-    let mut path = [0u8; 4096];
-    let n = arg(host, line.word(Part::Image, 0), &mut path);
-    load_named(
-        host,
-        &path[..n],
-        mem,
-        line.has(Part::At),
-        line.address(Part::At, 0),
-    )
-}
-
 // Of a part of memory, that the rest of it is made up: said once it is clear that what is asked for lies in the part.
 pub fn tell_part(host: &Host, line: Line, held: Held) {
-    let mut path = [0u8; 4096];
-    let n = arg(host, line.word(Part::Image, 0), &mut path);
     if !is_whole(held) {
-        mistakes::part(host, &path[..n], held.length as u64, held.from);
+        let path = arg(host, line.word(Part::Image, 0));
+        mistakes::part(host, path.as_slice(), u64::from(held.length), held.from);
     }
 }

@@ -1,30 +1,39 @@
 // What the launcher told the program, and what the program tells it: the status, at the end.
 ghost use Rattle.std.specs.Prelude.{◌≡◌};
-ghost use Rattle.phk.specs.Counts.{IsPrefixLen};
-ghost use Rattle.phk.specs.Status.{status_of, stands, env_in};
+ghost use Rattle.phk.specs.Status.{status_number, status_if, stands, env_in};
 
-use crate::page::note;
+use crate::page::{Filled, note};
 use std::cell::Cell;
 use std::env::{Env as Words, FillError};
 use std::fs::File;
 use std::io;
 use std::io::ErrorKind;
 
-pub const DONE: u8 = 0;
+// The program's last word; its number is what the launcher hears.
+#[derive(Clone, Copy, PartialEq, Eq)]
+pub enum Status {
+    Done = 0,
+    Refused = 1,
+    BadUsage = 2,
+    // The image cannot be read or does not hold what is asked for, --out cannot be written.
+    BadFile = 4,
+    LostOutput = 5,
+    StoppedByHand = 130,
+    // 128 and the number of the signal that ends a program whose reader goes away.
+    ReaderGone = 141,
+}
 
-pub const REFUSED: u8 = 1;
+impl From<Status> for u8 {
+    ghost from_gives = { λ status number. number ≡ status_number status };
 
-pub const BAD_USAGE: u8 = 2;
+    fn from(status: Status) -> u8 {
+        status as u8
+    }
+}
 
-// A file: the image cannot be read or does not hold what is asked for, --out cannot be written.
-pub const BAD_FILE: u8 = 4;
-
-pub const LOST_OUTPUT: u8 = 5;
-
-pub const STOPPED_BY_HAND: u8 = 130;
-
-// 128 and the number of the signal that ends a program whose reader goes away.
-const READER_GONE: u8 = 141;
+// A command is given up, and why has been told.
+#[derive(Clone, Copy)]
+pub struct GivenUp;
 
 // The launcher's word comes first and begins with @: then c, colours on standard output, or -; p, progress on standard error, or -; s,
 // there is a launcher, which hears the status and tells when to stop; w, lines may have 100 columns, or -. `first` is the first word
@@ -38,118 +47,117 @@ pub struct Env {
     pub wide: bool,
 }
 
-// What standard output has taken: all; not all, since its disk is full, or for another reason; or the reader of what is said went away.
+// Where what is said goes.
 #[derive(Clone, Copy)]
-pub enum Taken {
-    All,
+pub enum Stream {
+    Output,
+    Errors,
+}
+
+// Why standard output did not take all: its disk is full, or another reason; or the reader of what is said went away.
+#[derive(Clone, Copy)]
+pub enum Loss {
     DiskFull,
     NoMore,
     NoReader,
 }
 
-// The system, by which all is read and written; what standard output has taken so far; and where the place of descriptor 5 can be read, if
-// the launcher opened it.
+// The system, by which all is read and written; what standard output has not taken so far; and where the place of descriptor 5 can be
+// read, if the launcher opened it.
 #[derive(Drop)]
 pub struct Host {
     pub rt: HostRuntime,
-    pub taken: Cell<Taken>,
+    pub loss: Cell<Option<Loss>>,
     pub place: Option<File>,
 }
 
 pub fn hosted(rt: HostRuntime) -> Host {
     let place = File::open(&rt, "/proc/self/fdinfo/5").ok();
     Host {
-        rt: rt,
-        taken: Cell::new(Taken::All),
-        place: place,
+        rt,
+        loss: Cell::new(None),
+        place,
     }
 }
 
 // Whether anybody still reads what is said.
 pub fn is_read(host: &Host) -> bool {
-    match host.taken.get() {
-        Taken::NoReader => false,
-        _ => true,
-    }
+    !matches!(host.loss.get(), Some(Loss::NoReader))
 }
 
 // Why a write failed. Of one to standard error only that its reader went away.
-fn taken_after(fd: i32, kind: ErrorKind) -> Taken {
-    match kind {
-        ErrorKind::BrokenPipe => Taken::NoReader,
-        ErrorKind::StorageFull if fd == 1 => Taken::DiskFull,
-        _ if fd == 1 => Taken::NoMore,
-        _ => Taken::All,
+fn loss_of(to: Stream, kind: ErrorKind) -> Option<Loss> {
+    match (to, kind) {
+        (_, ErrorKind::BrokenPipe) => Some(Loss::NoReader),
+        (Stream::Output, ErrorKind::StorageFull) => Some(Loss::DiskFull),
+        (Stream::Output, _) => Some(Loss::NoMore),
+        (Stream::Errors, _) => None,
     }
 }
 
 // What could not be written is noted. Behind a reader that went away there is nothing to note.
-pub fn lose(host: &Host, fd: i32, e: io::Error) {
-    match (host.taken.get(), taken_after(fd, e.kind())) {
-        (Taken::NoReader, _) => {}
-        (_, Taken::All) => {}
-        (_, now) => host.taken.set(now),
+pub fn lose(host: &Host, to: Stream, e: io::Error) {
+    if let Some(loss) = loss_of(to, e.kind())
+        && is_read(host)
+    {
+        host.loss.set(Some(loss));
     }
 }
 
 // How many words the program was given, its own name among them.
 pub fn arg_count(host: &Host) -> usize {
-    let mut word = [0u8; 1];
-    let mut count = 0;
+    let mut byte = [0u8; 1];
     for i in 0..usize::MAX {
-        match host.rt.arg(i, &mut word) {
-            Ok(_) | Err(FillError::TooLong) => {}
-            Err(FillError::NotPresent) => break,
+        if let Err(FillError::NotPresent) = host.rt.arg(i, &mut byte) {
+            return i;
         }
-        count = i + 1;
     }
-    count
+    usize::MAX
 }
 
-// Whether a word is longer than there is room.
-pub fn is_overlong(host: &Host, i: usize) -> bool {
-    let mut word = [0u8; 4096];
-    match host.rt.arg(i, &mut word) {
-        Err(FillError::TooLong) => true,
-        _ => false,
+// A word that was given, unless it is longer than there is room.
+pub fn word(host: &Host, i: usize) -> Result<Filled<4096>, FillError> {
+    let mut bytes = [0u8; 4096];
+    let length = host.rt.arg(i, &mut bytes)?;
+    Ok(Filled::new(bytes, length))
+}
+
+// The same; an empty one if there is none or it is longer than there is room.
+pub fn arg(host: &Host, i: usize) -> Filled<4096> {
+    match word(host, i) {
+        Ok(word) => word,
+        Err(_) => Filled::new([0; 4096], 0),
     }
 }
 
-// A word that was given, and its length; nothing if there is none or it is longer than there is room.
-pub fn arg(host: &Host, i: usize, word: &mut [u8]) -> usize
-    ensures { IsPrefixLen result word.new }
+// The status of what passes, or is refused.
+pub fn status_if(passes: bool) -> Status
+    ensures { status_number result ≡ status_if passes }
 {
-    match host.rt.arg(i, word) {
-        Ok(n) => n,
-        Err(_) => 0,
+    if passes {
+        Status::Done
+    } else {
+        Status::Refused
     }
-}
-
-// The status that a refusal's number stands for; 0 is none.
-pub fn status_of(refusal: u8) -> u8
-    ensures { result ≡ status_of refusal }
-{
-    let none = refusal == 0;
-    if none { DONE } else { REFUSED }
 }
 
 #[tactic(auto, unfolding(crate::specs::Status::stands))]
 fn stands(word: &[u8], i: usize, b: u8) -> bool
     ensures { result ≡ stands word.now i b }
 {
-    if i < word.len() { word[i] == b } else { false }
+    i < word.len() && word[i] == b
 }
 
 fn env_in(word: &[u8]) -> Env
     ensures { result ≡ env_in word.now }
 {
-    if stands(word, 0, 64) {
+    if stands(word, 0, b'@') {
         return Env {
             first: 2,
-            colour: stands(word, 1, 99),
-            progress: stands(word, 2, 112),
-            tells: stands(word, 3, 115),
-            wide: stands(word, 4, 119),
+            colour: stands(word, 1, b'c'),
+            progress: stands(word, 2, b'p'),
+            tells: stands(word, 3, b's'),
+            wide: stands(word, 4, b'w'),
         };
     }
     Env {
@@ -162,29 +170,26 @@ fn env_in(word: &[u8]) -> Env
 }
 
 pub fn told(host: &Host) -> Env {
-    let mut word = [0u8; 4096];
-    let n = arg(host, 1, &mut word);
-    env_in(&word[..n])
+    env_in(arg(host, 1).as_slice())
+}
+
+fn output_lost(host: &Host, sentence: &[u8]) -> Status {
+    note(host, sentence);
+    Status::LostOutput
 }
 
 // The status, unless standard output did not take all that was said.
-pub fn last_word(host: &Host, status: u8) -> u8 {
-    match host.taken.get() {
-        Taken::All => status,
-        Taken::DiskFull => {
-            note(
-                host,
-                b"phk: standard output: no space left on its device; what was to be said is not all there\n",
-            );
-            LOST_OUTPUT
-        }
-        Taken::NoMore => {
-            note(
-                host,
-                b"phk: standard output takes no more; what was to be said is not all there\n",
-            );
-            LOST_OUTPUT
-        }
-        Taken::NoReader => READER_GONE,
+pub fn last_word(host: &Host, status: Status) -> Status {
+    match host.loss.get() {
+        None => status,
+        Some(Loss::DiskFull) => output_lost(
+            host,
+            b"phk: standard output: no space left on its device; what was to be said is not all there\n",
+        ),
+        Some(Loss::NoMore) => output_lost(
+            host,
+            b"phk: standard output takes no more; what was to be said is not all there\n",
+        ),
+        Some(Loss::NoReader) => Status::ReaderGone,
     }
 }

@@ -1,27 +1,35 @@
 // What the tool says: each sentence and the form of each line, once. In a form # $ % & stand for the next value, as four hexadecimal
-// digits, two, a decimal number or flags, and @ for the word; a sentence that has a number is a line of a text.
+// digits, two, a decimal number or flags, and @ for the word; a sentence that has a number is a line of a text: the number is the one that the
+// document gives it, and that the tool prints. What answers whether a line was written answers `true` or `false`, since both halves of a line
+// are written whatever came of the first.
 ghost use Rattle.std.specs.Prelude.{◌≡◌, ◌+◌, ◌%◌};
 ghost use Rattle.definition.specs.Bus.{byte_at};
 ghost use Rattle.phk.specs.Values.{values_of};
 
-use crate::page::{note, out, print, print_short};
-use crate::said::Host;
+use crate::page::{note, out, print_short};
+use crate::said::{Host, Stream};
+use crate::window::Window;
+use map::kinds::Kind;
 use map::opcode::length_of;
+use map::tally::Counts;
 use sm83::{Addr, CpuRegisters};
 use text::lines::line_of;
+
+fn print(host: &Host, form: &[u8], values: &[u64]) {
+    crate::page::print(host, Stream::Output, form, values, b"");
+}
 
 pub fn byte(mem: &[u8], a: u16) -> u8
     ensures { result ≡ byte_at mem.now a }
 {
-    map::byte::byte(mem, Addr(a))
+    screen::memory::byte(mem, Addr(a))
 }
 
 // Addresses wrap.
 pub fn after(a: u16, by: u16) -> u16
     ensures { result ≡ (a + by) % 65536 }
 {
-    let to = Addr(a).wrapping_add(by);
-    to.0
+    Addr(a).wrapping_add(by).0
 }
 
 fn end_line(host: &Host) {
@@ -32,16 +40,14 @@ fn end_line(host: &Host) {
 fn values_of(r: CpuRegisters) -> [u64; 7]
     ensures { result ≡ values_of r }
 {
-    let sp = r.sp;
-    let pc = r.pc;
     [
-        r.reg_af_read() as u64,
-        r.reg_bc_read() as u64,
-        r.reg_de_read() as u64,
-        r.reg_hl_read() as u64,
-        sp.0 as u64,
-        pc.0 as u64,
-        r.f as u64,
+        u64::from(r.reg_af_read()),
+        u64::from(r.reg_bc_read()),
+        u64::from(r.reg_de_read()),
+        u64::from(r.reg_hl_read()),
+        u64::from(r.sp.0),
+        u64::from(r.pc.0),
+        u64::from(r.f),
     ]
 }
 
@@ -49,12 +55,18 @@ fn values_of(r: CpuRegisters) -> [u64; 7]
 fn print_start(host: &Host, forms: &[u8], mem: &[u8], a: u16) -> bool {
     let b = byte(mem, a);
     let values = [
-        a as u64,
-        b as u64,
-        byte(mem, after(a, 1)) as u64,
-        byte(mem, after(a, 2)) as u64,
+        u64::from(a),
+        u64::from(b),
+        u64::from(byte(mem, after(a, 1))),
+        u64::from(byte(mem, after(a, 2))),
     ];
-    print_short(host, 1, line_of(forms, length_of(b) as usize), &values, b"")
+    print_short(
+        host,
+        Stream::Output,
+        line_of(forms, usize::from(length_of(b))),
+        &values,
+        b"",
+    )
 }
 
 pub fn start(host: &Host, mem: &[u8], a: u16) {
@@ -62,18 +74,18 @@ pub fn start(host: &Host, mem: &[u8], a: u16) {
     end_line(host);
 }
 
-pub fn passes(host: &Host, first: u16, last: u16, instructions: u64, jumps: u64) {
-    let values = [first as u64, last as u64, instructions, jumps];
-    print(
-        host,
-        1,
-        b"passes: # to #, instructions %, jumps %\n",
-        &values,
-        b"",
-    );
+pub fn passes(host: &Host, window: Window, count: Counts) {
+    let values = [
+        u64::from(window.first),
+        u64::from(window.last),
+        count.instructions,
+        count.jumps,
+    ];
+    print(host, b"passes: # to #, instructions %, jumps %\n", &values);
 }
 
-// The rule that a refusal means was broken, and what to do.
+// The rule that a refusal means was broken, and what to do. A step's refusals and the screen's are two types of one table: the number is what
+// both print.
 fn rule(host: &Host, number: u8) {
     let text = line_of(
         b"
@@ -87,110 +99,83 @@ a routine must not hold this instruction (STOP, HALT, EI, RETI, JP HL, any CALL 
 this instruction is longer than what is left of the window; move LAST so that it lies inside, or remove it
 the last instruction may run on past LAST; let the routine end with a JP, JR or RET that has no condition
 this jump goes where no instruction of the window starts; aim it at a start inside the window, or widen the window",
-        number as usize,
+        usize::from(number),
     );
     out(host, text);
     end_line(host);
 }
 
 pub fn refused(host: &Host, number: u8) {
-    print(host, 1, b"refused %\n", &[number as u64], b"");
+    print(host, b"refused %\n", &[u64::from(number)]);
     rule(host, number);
 }
 
 // What the screen says, before a run within a window.
-pub fn screened(host: &Host) {
-    out(host, b"screen: ");
-}
+pub const SCREENED: &[u8] = b"screen: ";
 
 // What demand 3 says of a routine that passes, started as it wants.
-pub fn proved(host: &Host) {
-    out(
-        host,
-        b"proved: until it returns or writes into itself, PC stays at its instruction starts, and no step is refused, halts, stops or is interrupted
-",
-    );
-}
+pub const PROVED: &[u8] =
+    b"proved: until it returns or writes into itself, PC stays at its instruction starts, and no step is refused, halts, stops or is interrupted\n";
 
-pub fn not_proved_of_refused(host: &Host) {
-    out(
-        host,
-        b"nothing is proved of a routine that does not pass; its instruction starts are those met from its first address on
-",
-    );
-}
+pub const NOT_PROVED_OF_REFUSED: &[u8] =
+    b"nothing is proved of a routine that does not pass; its instruction starts are those met from its first address on\n";
 
-pub fn not_proved_of_state(host: &Host) {
-    out(
-        host,
-        b"nothing is proved of this start: the routine passes, but interrupts are on, or about to be, or F is no F
-",
-    );
-}
+pub const NOT_PROVED_OF_STATE: &[u8] =
+    b"nothing is proved of this start: the routine passes, but interrupts are on, or about to be, or F is no F\n";
 
 pub fn not_proved_of_start(host: &Host, a: u16) {
     print(
         host,
-        1,
         b"nothing is proved of this start: the routine passes, but # is no instruction start of it\n",
-        &[a as u64],
-        b"",
+        &[u64::from(a)],
     );
 }
 
 // Why the watch ended.
 
 pub fn returned(host: &Host, a: u16) {
-    print(host, 1, b"it has returned, to #\n", &[a as u64], b"");
+    print(host, b"it has returned, to #\n", &[u64::from(a)]);
 }
 
 pub fn strayed(host: &Host, a: u16) {
     print(
         host,
-        1,
         b"it has lost its place: # is no instruction start of the routine, and no return led there\n",
-        &[a as u64],
-        b"",
+        &[u64::from(a)],
     );
 }
 
-pub fn was_refused(host: &Host) {
-    out(host, b"a step is refused\n");
-}
+pub const WAS_REFUSED: &[u8] = b"a step is refused\n";
 
-pub fn was_stopped(host: &Host) {
-    out(host, b"a step stops the processor\n");
-}
+pub const WAS_STOPPED: &[u8] = b"a step stops the processor\n";
 
-pub fn was_halted(host: &Host) {
-    out(host, b"a step halts the processor\n");
-}
+pub const WAS_HALTED: &[u8] = b"a step halts the processor\n";
 
-pub fn was_interrupted(host: &Host) {
-    out(host, b"a step takes an interrupt\n");
-}
+pub const WAS_INTERRUPTED: &[u8] = b"a step takes an interrupt\n";
 
 pub fn wrote_inside(host: &Host, a: u16) {
     print(
         host,
-        1,
         b"a step writes into the routine, at #; from there on it is another routine\n",
-        &[a as u64],
-        b"",
+        &[u64::from(a)],
     );
 }
 
-pub fn last_steps(host: &Host) {
-    out(host, b"that step, and up to sixteen before it:\n");
-}
+pub const LAST_STEPS: &[u8] = b"that step, and up to sixteen before it:\n";
 
 pub fn not_run(host: &Host, f: u8) -> bool {
-    print_short(host, 1, b" &  0  not run\n", &[f as u64], b"")
+    print_short(
+        host,
+        Stream::Output,
+        b" &  0  not run\n",
+        &[u64::from(f)],
+        b"",
+    )
 }
 
 // A refusal that names an address, and the bytes there.
 pub fn refused_at(host: &Host, mem: &[u8], number: u8, a: u16) {
-    print(host, 1, b"refused % at ", &[number as u64], b"");
+    print(host, b"refused % at ", &[u64::from(number)]);
     start(host, mem, a);
     rule(host, number);
 }
@@ -211,7 +196,7 @@ it took interrupt 1, at vector 0048
 it took interrupt 2, at vector 0050
 it took interrupt 3, at vector 0058
 it took interrupt 4, at vector 0060",
-        outcome as usize,
+        usize::from(outcome),
     );
     out(host, text);
     end_line(host);
@@ -221,40 +206,30 @@ it took interrupt 4, at vector 0060",
 pub fn limit(host: &Host, budget: u64) {
     print(
         host,
-        1,
         b"the limit of % steps was reached, and the processor goes on; --steps N sets another limit\n",
         &[budget],
-        b"",
     );
 }
 
-pub fn stopped_by_hand(host: &Host) {
-    out(
-        host,
-        b"it was stopped from the keyboard, and would go on; no file was written\n",
-    );
-}
+pub const STOPPED_BY_HAND: &[u8] =
+    b"it was stopped from the keyboard, and would go on; no file was written\n";
 
 pub fn left_the_image(host: &Host, a: u16) {
     print(
         host,
-        1,
         b"it has left the image: the instruction at # is not all in it\n",
-        &[a as u64],
-        b"",
+        &[u64::from(a)],
     );
 }
 
 // What a run came to.
 pub fn report(host: &Host, steps: u64, cycles: u64, registers: CpuRegisters) {
-    print(host, 1, b"steps %, M-cycles %\n", &[steps, cycles], b"");
+    print(host, b"steps %, M-cycles %\n", &[steps, cycles]);
     let values = values_of(registers);
     print(
         host,
-        1,
         b"AF #  BC #  DE #  HL #  SP #  PC #  flags &\n",
         &values,
-        b"",
     );
 }
 
@@ -271,29 +246,23 @@ pub fn interrupts(host: &Host, on: bool, soon: bool) {
 }
 
 pub fn accesses(host: &Host, cycles: u64) {
-    print(host, 1, b"accesses to memory %\n", &[cycles], b"");
+    print(host, b"accesses to memory %\n", &[cycles]);
 }
 
 pub fn change(host: &Host, a: u16, before: u8, now: u8) {
-    let values = [a as u64, before as u64, now as u64];
-    print(host, 1, b"#  was $, is $\n", &values, b"");
+    let values = [u64::from(a), u64::from(before), u64::from(now)];
+    print(host, b"#  was $, is $\n", &values);
 }
 
-pub fn no_change(host: &Host) {
-    out(host, b"no byte of memory changed\n");
-}
+pub const NO_CHANGE: &[u8] = b"no byte of memory changed\n";
 
-pub fn trace_head(host: &Host) {
-    out(
-        host,
-        b"PC    bytes     AF   BC   DE   HL   SP   ZNHC  M-cycles, outcome, writes\n",
-    );
-}
+pub const TRACE_HEAD: &[u8] =
+    b"PC    bytes     AF   BC   DE   HL   SP   ZNHC  M-cycles, outcome, writes\n";
 
 // Where a traced step begins: PC, the bytes there and the registers.
 pub fn tracing(host: &Host, mem: &[u8], a: u16, before: CpuRegisters) -> bool {
     let begun = print_start(host, b"\n#  $       \n#  $ $    \n#  $ $ $ ", mem, a);
-    let ended = print_short(host, 1, b" # # # # #", &values_of(before), b"");
+    let ended = print_short(host, Stream::Output, b" # # # # #", &values_of(before), b"");
     begun & ended
 }
 
@@ -320,28 +289,45 @@ interrupt 4
 refused 1
 refused 2
 refused 3",
-        outcome as usize,
+        usize::from(outcome),
     );
-    print_short(host, 1, b" &  %  @", &[f as u64, cycles], brief)
+    print_short(
+        host,
+        Stream::Output,
+        b" &  %  @",
+        &[u64::from(f), cycles],
+        brief,
+    )
 }
 
 pub fn wrote_nothing(host: &Host) -> bool {
-    print_short(host, 1, b"\n", &[], b"")
+    print_short(host, Stream::Output, b"\n", &[], b"")
 }
 
 pub fn wrote_one(host: &Host, mem: &[u8], a: u16) -> bool {
-    let values = [a as u64, byte(mem, a) as u64];
-    print_short(host, 1, b"  #=$\n", &values, b"")
+    let values = [u64::from(a), u64::from(byte(mem, a))];
+    print_short(host, Stream::Output, b"  #=$\n", &values, b"")
 }
 
 pub fn wrote_two(host: &Host, mem: &[u8], a: u16, b: u16) -> bool {
-    let values = [a as u64, byte(mem, a) as u64, b as u64, byte(mem, b) as u64];
-    print_short(host, 1, b"  #=$ #=$\n", &values, b"")
+    let values = [
+        u64::from(a),
+        u64::from(byte(mem, a)),
+        u64::from(b),
+        u64::from(byte(mem, b)),
+    ];
+    print_short(host, Stream::Output, b"  #=$ #=$\n", &values, b"")
 }
 
 // How far a long run has come, on one line that is written over.
 pub fn progress(host: &Host, steps: u64, total: u64) {
-    print(host, 2, b"\r% of % steps", &[steps, total], b"");
+    crate::page::print(
+        host,
+        Stream::Errors,
+        b"\r% of % steps",
+        &[steps, total],
+        b"",
+    );
 }
 
 pub fn clear_progress(host: &Host) {
@@ -349,28 +335,20 @@ pub fn clear_progress(host: &Host) {
 }
 
 pub fn row(host: &Host, a: u16) {
-    print(host, 1, b"#  ", &[a as u64], b"");
+    print(host, b"#  ", &[u64::from(a)]);
 }
 
-// One byte of the map: the letter of its kind (0 not reached, 1 an instruction start, 2 an operand byte, 3 a jump's start, 4 the refused
-// byte), in its kind's colour if colours are wanted.
-pub fn cell(host: &Host, kind: u8, colour: bool) {
-    if colour {
-        out(
-            host,
-            line_of(
-                b"-\x1b[0m\n\x1b[32mI\x1b[0m\n\x1b[2m.\x1b[0m\n\x1b[36mJ\x1b[0m\n\x1b[31;7mX\x1b[0m",
-                kind as usize,
-            ),
-        );
-    } else {
-        out(host, line_of(b"-\nI\n.\nJ\nX", kind as usize));
-    }
+// One byte of the map: the letter of its kind, in its kind's colour if colours are wanted.
+pub fn cell(host: &Host, kind: Kind, colour: bool) {
+    let (plain, coloured): (&[u8], &[u8]) = match kind {
+        Kind::NotReached => (b"-", b"-\x1b[0m"),
+        Kind::Start => (b"I", b"\x1b[32mI\x1b[0m"),
+        Kind::Operand => (b".", b"\x1b[2m.\x1b[0m"),
+        Kind::Jump => (b"J", b"\x1b[36mJ\x1b[0m"),
+        Kind::Refused => (b"X", b"\x1b[31;7mX\x1b[0m"),
+    };
+    out(host, if colour { coloured } else { plain });
 }
 
-pub fn legend(host: &Host) {
-    out(
-        host,
-        b"I instruction start   . operand byte   J jump   X refused here   - not reached\n",
-    );
-}
+pub const LEGEND: &[u8] =
+    b"I instruction start   . operand byte   J jump   X refused here   - not reached\n";

@@ -1,10 +1,9 @@
 // phk show: bytes of memory, 16 a row, or the words of a stack. What the image does not have is shown as --.
 ghost use Rattle.std.specs.Prelude.{◌≡◌};
-ghost use Rattle.phk.specs.Shown.{at_most, next_of16};
+ghost use Rattle.phk.specs.Shown.{at_most};
 
 use crate::page::{out, print_short};
-use crate::said::Host;
-use crate::screening::row_end;
+use crate::said::{Host, Stream};
 use crate::sentences::{after, byte, row};
 use crate::view::{Held, holds};
 use commandline::grammar::Part;
@@ -15,63 +14,47 @@ use map::barred::{Barred, barred_as};
 fn at_most(count: u64, most: u32) -> u32
     ensures { result ≡ at_most count most }
 {
-    if count < most as u64 {
-        count as u32
-    } else {
-        most
-    }
-}
-
-fn next_of_16(column: u8) -> u8
-    ensures { result ≡ next_of16 column }
-{
-    (column % 16 + 1) % 16
+    count.min(u64::from(most)) as u32
 }
 
 fn print_byte(host: &Host, mem: &[u8], held: Held, a: u16) {
     if holds(held, a, 1) {
-        print_short(host, 1, b" $", &[byte(mem, a) as u64], b"");
+        print_short(host, Stream::Output, b" $", &[u64::from(byte(mem, a))], b"");
     } else {
         out(host, b" --");
     }
 }
 
-fn print_row(host: &Host, column: u8, a: u16) {
-    if column == 0 {
-        print_short(host, 1, b"# ", &[a as u64], b"");
-    }
-}
-
+// 16 to a row, with its address in front.
 fn print_bytes(host: &Host, mem: &[u8], held: Held, first: u16, count: u32) {
-    let mut left = count;
     let mut a = first;
-    let mut column: u8 = 0;
-    while 0 < left {
-        print_row(host, column, a);
+    for i in 0..count {
+        if i % 16 == 0 {
+            print_short(host, Stream::Output, b"# ", &[u64::from(a)], b"");
+        }
         print_byte(host, mem, held, a);
+        if (i % 16 == 15) | (i == count - 1) {
+            out(host, b"\n");
+        }
         a = after(a, 1);
-        left = left - 1;
-        column = next_of_16(column);
-        row_end(host, column == 0);
     }
-    row_end(host, column != 0);
 }
 
 // A return address stands behind the call that pushed it: a CALL of three bytes, or an RST of one.
 fn print_caller(host: &Host, mem: &[u8], back: u16) {
     let call = after(back, 65533);
     let rst = after(back, 65535);
-    match barred_as(byte(mem, call)) {
-        Barred::Call => print_behind(host, b"  behind the CALL at #\n", call),
-        _ => match barred_as(byte(mem, rst)) {
-            Barred::Rst => print_behind(host, b"  behind the RST at #\n", rst),
-            _ => out(host, b"\n"),
-        },
+    if matches!(barred_as(byte(mem, call)), Some(Barred::Call)) {
+        print_behind(host, b"  behind the CALL at #\n", call);
+    } else if matches!(barred_as(byte(mem, rst)), Some(Barred::Rst)) {
+        print_behind(host, b"  behind the RST at #\n", rst);
+    } else {
+        out(host, b"\n");
     }
 }
 
 fn print_behind(host: &Host, form: &[u8], a: u16) {
-    print_short(host, 1, form, &[a as u64], b"");
+    print_short(host, Stream::Output, form, &[u64::from(a)], b"");
 }
 
 // A word of the stack, low byte first, and the call that it may return to.
@@ -80,20 +63,24 @@ fn print_word(host: &Host, mem: &[u8], held: Held, a: u16) {
     if holds(held, a, 2) {
         let low = byte(mem, a);
         let high = byte(mem, after(a, 1));
-        print_short(host, 1, b"$$", &[high as u64, low as u64], b"");
-        print_caller(host, mem, after(low as u16, 256 * (high as u16)));
+        print_short(
+            host,
+            Stream::Output,
+            b"$$",
+            &[u64::from(high), u64::from(low)],
+            b"",
+        );
+        print_caller(host, mem, after(u16::from(low), 256 * u16::from(high)));
     } else {
         out(host, b"----\n");
     }
 }
 
 fn print_words(host: &Host, mem: &[u8], held: Held, first: u16, count: u32) {
-    let mut left = count;
     let mut a = first;
-    while 0 < left {
+    for _ in 0..count {
         print_word(host, mem, held, a);
         a = after(a, 2);
-        left = left - 1;
     }
 }
 

@@ -22,19 +22,17 @@ fn at_power_on(power: Power) -> Cpu
 fn of_words(af: u16, bc: u16, de: u16, hl: u16, sp: u16, pc: u16) -> CpuRegisters
     ensures { result ≡ of_words af bc de hl sp pc }
 {
-    let stack = Addr(sp);
-    let start = Addr(pc);
     CpuRegisters {
         a: (af / 256) as u8,
         b: (bc / 256) as u8,
         c: (bc % 256) as u8,
-        sp: stack,
+        sp: Addr(sp),
         f: (af % 256) as u8,
         d: (de / 256) as u8,
         e: (de % 256) as u8,
         h: (hl / 256) as u8,
         l: (hl % 256) as u8,
-        pc: start,
+        pc: Addr(pc),
     }
 }
 
@@ -42,15 +40,13 @@ fn of_words(af: u16, bc: u16, de: u16, hl: u16, sp: u16, pc: u16) -> CpuRegister
 fn started_with(line: Line, r: CpuRegisters) -> CpuRegisters
     ensures { result ≡ started_with line r }
 {
-    let sp = r.sp;
-    let pc = r.pc;
     of_words(
         line.address(Part::Af, r.reg_af_read()),
         line.address(Part::Bc, r.reg_bc_read()),
         line.address(Part::De, r.reg_de_read()),
         line.address(Part::Hl, r.reg_hl_read()),
-        line.address(Part::Sp, sp.0),
-        line.address(Part::Pc, line.address(Part::First, pc.0)),
+        line.address(Part::Sp, r.sp.0),
+        line.address(Part::Pc, line.address(Part::First, r.pc.0)),
     )
 }
 
@@ -58,14 +54,10 @@ pub fn started(line: Line) -> Cpu
     ensures { result ≡ started line }
 {
     let c = at_power_on(line.power(Part::State, Power::Dmg));
-    let own = c.registers;
-    let registers = started_with(line, own);
-    let ime = line.has(Part::Ime);
-    let latch = line.has(Part::Ei);
     Cpu {
-        registers: registers,
-        ime: ime,
-        latch: latch,
+        registers: started_with(line, c.registers),
+        ime: line.has(Part::Ime),
+        latch: line.has(Part::Ei),
         halt: HaltMode::NotHalting,
         stopped: false,
         hdma: false,

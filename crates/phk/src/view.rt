@@ -32,19 +32,16 @@ pub fn is_whole(held: Held) -> bool
 pub fn holds(held: Held, at: u16, length: u32) -> bool
     ensures { result ≡ holds held at length }
 {
-    let whole = is_whole(held);
     let begins = held.from <= at;
-    let ends = (at as u64) + (length as u64) <= (held.from as u64) + (held.length as u64);
-    whole | (begins & ends)
+    let ends = u64::from(at) + u64::from(length) <= u64::from(held.from) + u64::from(held.length);
+    is_whole(held) | (begins & ends)
 }
 
 // A run goes step by step if each is shown, or may be the one that leaves the image.
 pub fn is_single(view: View) -> bool
     ensures { result ≡ is_single view }
 {
-    let held = view.held;
-    let whole = is_whole(held);
-    view.trace | !whole
+    view.trace | !is_whole(view.held)
 }
 
 // Nothing is shown, and nothing asked.
@@ -55,35 +52,29 @@ pub fn unseen(held: Held) -> View
         trace: false,
         progress: false,
         stops: false,
-        held: held,
+        held,
     }
 }
 
 // The launcher has asked to stop: it has read from the file that it opened as descriptor 5, whose place it shares with the program.
 pub fn asked(host: &Host, stops: bool) -> bool {
-    if stops {
-        return has_moved(&host.place);
-    }
-    false
+    stops && has_moved(&host.place)
 }
 
 // The system says of a descriptor "pos:", a tab and its place first: 0 at the file's beginning.
 fn has_moved(place: &Option<File>) -> bool {
     let mut said = [0u8; 8];
-    match place {
-        Some(file) => match file.read_at(&mut said, 0) {
-            Ok(n) => (5 < n) & (said[5] != b'0'),
-            Err(_) => false,
-        },
-        None => false,
+    if let Some(file) = place
+        && let Ok(n) = file.read_at(&mut said, 0)
+    {
+        return (5 < n) & (said[5] != b'0');
     }
+    false
 }
 
 // The instruction at an address, whose first byte is b, is not all in the image.
 pub fn is_outside(held: Held, at: u16, b: u8) -> bool
     ensures { result ≡ is_outside held at b }
 {
-    let length = length_of(b);
-    let inside = holds(held, at, length as u32);
-    !inside
+    !holds(held, at, u32::from(length_of(b)))
 }

@@ -8,21 +8,23 @@ ghost use Rattle.routine.specs.Trace.{takes_return};
 ghost use Rattle.watch.specs.Reasons.{watch_on};
 ghost use Rattle.phk.specs.Start.{started, budget};
 ghost use Rattle.phk.specs.SoFar.{so_far, farther_by};
+ghost use Rattle.phk.specs.Status.{status_number};
 ghost use Rattle.phk.specs.Watching.{ends_watch, is_stray, settled, seen_at, Went, Leaves, status_of_watch, unless_refused};
 
 use crate::ends::{end_status, print_end, saved, show_after, show_before, show_head};
 use crate::far::{Far, NOTED, begun, farther, over};
 use crate::machine::{looked, note, piece, pieces};
-use crate::page::within;
-use crate::said::{Env, Host};
-use crate::screening::{behind, verdict_told};
+use crate::page::{out, within};
+use crate::said::{Env, Host, Status};
+use crate::screening::verdict_told;
+use crate::sentences;
 use crate::start::{budget, started};
 use crate::view::{Held, View, unseen};
-use crate::{said, sentences};
+use crate::window::Window;
 use commandline::grammar::Part;
 use commandline::line::Line;
 use sm83::{Addr, Cpu};
-use text::page::put;
+use text::page::Page;
 use watch::demanded::{quiet, returns};
 use watch::reasons::Why;
 use watch::starts::{mark_starts, strays};
@@ -33,22 +35,14 @@ use watch::written::next_writes;
 #[derive(Clone, Copy)]
 pub struct Seen {
     pub far: Far,
-    pub why: Why,
+    pub why: Option<Why>,
     pub home: bool,
 }
 
-fn ends_watch(why: Why) -> bool
+fn ends_watch(why: Option<Why>) -> bool
     ensures { result ≡ ends_watch why }
 {
-    match why {
-        Why::Stays => false,
-        Why::Strays => true,
-        Why::Refused => true,
-        Why::Stops => true,
-        Why::Halts => true,
-        Why::Interrupted => true,
-        Why::Writes(_) => true,
-    }
+    why.is_some()
 }
 
 // One step at a marked start.
@@ -71,42 +65,37 @@ fn watched_step(
     let writes = next_writes(cpu, mem);
     show_before(host, trace, mem, before);
     let w = watch(cpu, mem, first, marks);
-    let ran = w.ran;
-    let why = w.why;
-    show_after(host, trace, before, ran, writes, mem);
-    let farther = farther(far, ran);
+    show_after(host, trace, before, w.ran, writes, mem);
     Seen {
-        far: farther,
-        why: why,
-        home: home,
+        far: farther(far, w.ran),
+        why: w.why,
+        home,
     }
 }
 
 // The reason, unless the run ended by itself: after the last step, too, PC has to be a start.
-fn settled(why: Why, over: bool, astray: bool) -> Why
+fn settled(why: Option<Why>, over: bool, astray: bool) -> Option<Why>
     ensures { result ≡ settled why over astray }
 {
-    let ended = over | ends_watch(why);
-    if ended {
-        return why;
+    if astray & !over & !ends_watch(why) {
+        return Some(Why::Strays);
     }
-    if astray { Why::Strays } else { why }
+    why
 }
 
-fn seen_at(far: Far, why: Why, home: bool, first: Addr, marks: &[u8]) -> Seen
+fn seen_at(far: Far, why: Option<Why>, home: bool, first: Addr, marks: &[u8]) -> Seen
     ensures { result ≡ seen_at far why home first.0 marks.now }
 {
-    let end = far.cpu;
-    let astray = strays(first, marks, end);
-    let reason = settled(why, over(far), astray);
+    let astray = strays(first, marks, far.cpu);
     Seen {
-        far: far,
-        why: reason,
-        home: home,
+        far,
+        why: settled(why, over(far), astray),
+        home,
     }
 }
 
-// So many steps, or until the watch ends, or the run does.
+// So many steps, or until the watch ends, or the run does. The loop counts down, as that of `pieces` does, since what is left says which
+// place is noted, and a range turned round would say it no plainer. The first address and the marks are two parameters, as `watch` takes them.
 fn watched(
     host: &Host,
     cpu: Cpu,
@@ -115,17 +104,16 @@ fn watched(
     first: Addr,
     marks: &[u8],
     view: View,
-    pcs: &mut [u64],
+    pcs: &mut [u16],
 ) -> Seen
     ensures { Went steps cpu mem.old result.far mem.new }
 {
     let mut f = piece(host, begun(cpu), mem, 0, false);
-    let mut why = Why::Stays;
+    let mut why = None;
     let mut home = false;
     let mut left = steps;
     while 0 < left {
-        let here = f.cpu;
-        let astray = strays(first, marks, here);
+        let astray = strays(first, marks, f.cpu);
         if over(f) | ends_watch(why) | astray {
             return seen_at(f, why, home, first, marks);
         }
@@ -138,27 +126,21 @@ fn watched(
         f = s.far;
         why = s.why;
         home = s.home;
-        left = left - 1;
+        left -= 1;
     }
     seen_at(f, why, home, first, marks)
 }
 
 // What is proved of a run from here, and therefore cannot happen.
 fn print_proved(host: &Host, passes: bool, cpu: Cpu, first: Addr, marks: &[u8]) {
-    let registers = cpu.registers;
-    let pc = registers.pc;
     if !passes {
-        sentences::not_proved_of_refused(host);
-        return;
-    }
-    if strays(first, marks, cpu) {
-        sentences::not_proved_of_start(host, pc.0);
-        return;
-    }
-    if quiet(cpu) {
-        sentences::proved(host);
+        out(host, sentences::NOT_PROVED_OF_REFUSED);
+    } else if strays(first, marks, cpu) {
+        sentences::not_proved_of_start(host, cpu.registers.pc.0);
+    } else if quiet(cpu) {
+        out(host, sentences::PROVED);
     } else {
-        sentences::not_proved_of_state(host);
+        out(host, sentences::NOT_PROVED_OF_STATE);
     }
 }
 
@@ -172,12 +154,11 @@ fn print_stray(host: &Host, home: bool, at: u16) {
 
 fn print_why(host: &Host, why: Why, home: bool, at: u16) {
     match why {
-        Why::Stays => {}
         Why::Strays => print_stray(host, home, at),
-        Why::Refused => sentences::was_refused(host),
-        Why::Stops => sentences::was_stopped(host),
-        Why::Halts => sentences::was_halted(host),
-        Why::Interrupted => sentences::was_interrupted(host),
+        Why::Refused => out(host, sentences::WAS_REFUSED),
+        Why::Stops => out(host, sentences::WAS_STOPPED),
+        Why::Halts => out(host, sentences::WAS_HALTED),
+        Why::Interrupted => out(host, sentences::WAS_INTERRUPTED),
         Why::Writes(a) => sentences::wrote_inside(host, a.0),
     }
 }
@@ -185,22 +166,13 @@ fn print_why(host: &Host, why: Why, home: bool, at: u16) {
 fn is_stray(why: Why) -> bool
     ensures { result ≡ is_stray why }
 {
-    match why {
-        Why::Stays => false,
-        Why::Strays => true,
-        Why::Refused => false,
-        Why::Stops => false,
-        Why::Halts => false,
-        Why::Interrupted => false,
-        Why::Writes(_) => false,
-    }
+    matches!(why, Why::Strays)
 }
 
 // A step at no start of the routine is not run.
 fn print_not_run(host: &Host, mem: &[u8], cpu: Cpu) {
     let registers = cpu.registers;
-    let pc = registers.pc;
-    sentences::tracing(host, mem, pc.0, registers);
+    sentences::tracing(host, mem, registers.pc.0, registers);
     sentences::not_run(host, registers.f);
 }
 
@@ -208,7 +180,7 @@ fn print_not_run(host: &Host, mem: &[u8], cpu: Cpu) {
 fn left_out(steps: u64, last: u64) -> u64
     ensures { result ≡ steps - last }
 {
-    if last < steps { steps - last } else { 0 }
+    steps.saturating_sub(last)
 }
 
 // The step at which the watch ended, and up to sixteen before it: run once more, from the memory as it was.
@@ -223,17 +195,15 @@ fn print_last_steps(host: &Host, cpu: Cpu, old: &mut [u8], steps: u64, astray: b
         trace: true,
         progress: false,
         stops: false,
-        held: held,
+        held,
     };
-    let mut pcs = [0u64; NOTED];
-    sentences::last_steps(host);
+    let mut pcs = [0u16; NOTED];
+    out(host, sentences::LAST_STEPS);
     show_head(host, true);
     let far = pieces(host, cpu, old, unshown, unseen(held), &mut pcs);
-    let here = far.cpu;
-    let end = pieces(host, here, old, steps - unshown, view, &mut pcs);
+    let end = pieces(host, far.cpu, old, steps - unshown, view, &mut pcs);
     if astray {
-        let there = end.cpu;
-        print_not_run(host, old, there);
+        print_not_run(host, old, end.cpu);
     }
 }
 
@@ -266,47 +236,40 @@ fn print_seen(
     old: &mut [u8],
     steps: u64,
     trace: bool,
-    pcs: &[u64],
+    pcs: &[u16],
 ) {
     let far = seen.far;
-    let why = seen.why;
     let end = far.cpu;
     let registers = end.registers;
-    let pc = registers.pc;
-    if !ends_watch(why) {
+    let Some(why) = seen.why else {
         print_end(host, far, mem, steps, pcs);
         return;
-    }
-    print_why(host, why, seen.home, pc.0);
+    };
+    print_why(host, why, seen.home, registers.pc.0);
     print_unless_traced(host, trace, cpu, old, far.steps, is_stray(why));
     print_rest(host, trace & is_stray(why), mem, end);
     sentences::report(host, far.steps, far.cycles, registers);
     sentences::interrupts(host, end.ime, end.latch);
 }
 
-fn status_of_watch(why: Why, home: bool, status: u8) -> u8
-    ensures { result ≡ status_of_watch why home status }
+fn status_of_watch(why: Option<Why>, home: bool, status: Status) -> Status
+    ensures { status_number result ≡ status_of_watch why home (status_number status) }
 {
     match why {
-        Why::Stays => status,
-        Why::Strays => if home { said::DONE } else { said::REFUSED },
-        Why::Refused => said::REFUSED,
-        Why::Stops => said::REFUSED,
-        Why::Halts => said::REFUSED,
-        Why::Interrupted => said::REFUSED,
-        Why::Writes(_) => said::REFUSED,
+        None => status,
+        Some(Why::Strays) => if home { Status::Done } else { Status::Refused },
+        Some(_) => Status::Refused,
     }
 }
 
 // A routine that the screen refuses is not done, however it ran.
-fn unless_refused(passes: bool, status: u8) -> u8
-    ensures { result ≡ unless_refused passes status }
+fn unless_refused(passes: bool, status: Status) -> Status
+    ensures { status_number result ≡ unless_refused passes (status_number status) }
 {
-    let done = status == said::DONE;
-    if passes {
-        return status;
+    match status {
+        Status::Done if !passes => Status::Refused,
+        _ => status,
     }
-    if done { said::REFUSED } else { status }
 }
 
 // Its marks are all starts that are met from the first address on, also in a window that the screen refuses.
@@ -318,44 +281,42 @@ fn watching_in(
     marks: &mut [u8],
     view: View,
     env: Env,
-) -> u8
+) -> Status
     ensures { Leaves (budget line) (started line) mem.old mem.new }
 {
-    let held = view.held;
-    let first = Addr(line.address(Part::First, 0));
-    let last = line.address(Part::Last, 0);
-    sentences::screened(host);
-    let verdict = verdict_told(host, line, mem, marks, first.0, last, held, env);
+    let window = Window::asked(line);
+    let first = Addr(window.first);
+    out(host, sentences::SCREENED);
+    let verdict = verdict_told(host, line, mem, marks, window, view.held, env);
     mark_starts(mem, first, marks);
     let cpu = started(line);
-    let passes = verdict.number() == 0;
+    let passes = verdict.is_ok();
     print_proved(host, passes, cpu, first, marks);
     show_head(host, view.trace);
-    let mut pcs = [0u64; NOTED];
+    let mut pcs = [0u16; NOTED];
     let seen = watched(host, cpu, mem, budget(line), first, marks, view, &mut pcs);
     print_seen(host, seen, cpu, mem, old, budget(line), view.trace, &pcs);
     let far = seen.far;
-    let why = seen.why;
-    let cut = far.cut;
-    let last = far.last;
-    let status = status_of_watch(why, seen.home, end_status(cut, last));
-    saved(host, line, mem, cut, unless_refused(passes, status))
+    let status = status_of_watch(seen.why, seen.home, end_status(far.cut, far.last));
+    saved(host, line, mem, far.cut, unless_refused(passes, status))
 }
 
-pub fn watching(host: &Host, line: Line, mem: &mut [u8], held: Held, env: Env) -> u8
+pub fn watching(host: &Host, line: Line, mem: &mut [u8], held: Held, env: Env) -> Status
     ensures { Leaves (budget line) (started line) mem.old mem.new }
 {
-    let first = line.address(Part::First, 0);
-    let last = line.address(Part::Last, 0);
     let view = View {
         trace: line.has(Part::Trace),
         progress: false,
         stops: env.tells,
-        held: held,
+        held,
     };
     let mut old = [0u8; 65536];
-    put(&mut old, 0, mem);
+    Page {
+        bytes: &mut old,
+        at: 0,
+    }
+    .put(mem);
     let mut marks = [0u8; 65536];
-    let n = within(&marks, behind(last, first) + 1);
+    let n = within(&marks, Window::asked(line).length());
     watching_in(host, line, mem, &mut old, &mut marks[..n], view, env)
 }

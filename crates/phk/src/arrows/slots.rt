@@ -1,8 +1,10 @@
 // The jumps of a window, each in a slot: the row that it comes from, the row that it goes to, and its lane in the picture.
 use crate::sentences::after;
-use map::lanes::{free_lane, lane_at, row_at, span_of};
+use crate::window::Window;
+use map::kinds::Kind;
+use map::lanes::{Arrow, Lane, Rows, free_lane};
 use map::place::{Place, place_of};
-use map::target::{Target, target_at};
+use map::target::target_at;
 use screen::LONGEST_WINDOW;
 use sm83::Addr;
 
@@ -10,138 +12,64 @@ use sm83::Addr;
 // own, at half its row.
 pub const SLOTS: usize = LONGEST_WINDOW / 2;
 
-// In place of a lane: no jump in the slot; a jump for which none was looked for yet; a jump that is shown by its target.
-pub const NO_JUMP: u8 = 255;
-
-const NEW: u8 = 254;
-
-pub const NO_LANE: u8 = 253;
-
-fn put_row(rows: &mut [u16], k: usize, row: u16) {
-    if k < rows.len() {
-        rows[k] = row;
-    }
-}
-
-fn put_lane(lanes: &mut [u8], k: usize, lane: u8) {
-    if k < lanes.len() {
-        lanes[k] = lane;
-    }
-}
-
 // A jump, in its slot.
-fn note(from: u16, to: u16, lane: u8, froms: &mut [u16], tos: &mut [u16], lanes: &mut [u8]) {
-    let k = (from / 2) as usize;
-    put_row(froms, k, from);
-    put_row(tos, k, to);
-    put_lane(lanes, k, lane);
+fn note(from: u16, to: u16, lane: Lane, arrows: &mut [Arrow]) {
+    if let Some(arrow) = arrows.get_mut(usize::from(from / 2)) {
+        *arrow = Arrow {
+            rows: Rows { from, to },
+            lane,
+        };
+    }
 }
 
 // A jump to the inside of an instruction goes to that instruction's row.
-fn note_target(
-    mem: &[u8],
-    first: u16,
-    last: u16,
-    from: u16,
-    target: Addr,
-    froms: &mut [u16],
-    tos: &mut [u16],
-    lanes: &mut [u8],
-) {
-    match place_of(mem, Addr(first), Addr(last), target) {
-        Place::Outside => note(from, 0, NO_LANE, froms, tos, lanes),
+fn note_target(mem: &[u8], window: Window, from: u16, target: Addr, arrows: &mut [Arrow]) {
+    match place_of(mem, Addr(window.first), Addr(window.last), target) {
+        Place::Outside => note(from, 0, Lane::Told, arrows),
         Place::Start => {
-            let to = std::num::wrapping_sub_u16(target.0, first);
-            note(from, to, NEW, froms, tos, lanes);
+            let to = target.0.wrapping_sub(window.first);
+            note(from, to, Lane::Wanted, arrows);
         }
         Place::Inside(start) => {
-            let to = std::num::wrapping_sub_u16(start.0, first);
-            note(from, to, NEW, froms, tos, lanes);
+            let to = start.0.wrapping_sub(window.first);
+            note(from, to, Lane::Wanted, arrows);
         }
     }
 }
 
-fn note_row(
-    mem: &[u8],
-    first: u16,
-    last: u16,
-    kind: u8,
-    row: u16,
-    froms: &mut [u16],
-    tos: &mut [u16],
-    lanes: &mut [u8],
-) {
-    if kind == 3 {
-        match target_at(mem, Addr(after(first, row))) {
-            Target::Nowhere => {}
-            Target::To(target) => note_target(mem, first, last, row, target, froms, tos, lanes),
+pub fn note_rows(mem: &[u8], window: Window, kinds: &[Kind], arrows: &mut [Arrow]) {
+    for (i, kind) in kinds.iter().enumerate() {
+        let row = (i % 65536) as u16;
+        if *kind == Kind::Jump
+            && let Some(target) = target_at(mem, Addr(after(window.first, row)))
+        {
+            note_target(mem, window, row, target, arrows);
         }
     }
 }
 
-pub fn note_rows(
-    mem: &[u8],
-    first: u16,
-    last: u16,
-    kinds: &[u8],
-    froms: &mut [u16],
-    tos: &mut [u16],
-    lanes: &mut [u8],
-) {
-    let mut i = 0;
-    while i < kinds.len() {
-        note_row(
-            mem,
-            first,
-            last,
-            kinds[i],
-            (i % 65536) as u16,
-            froms,
-            tos,
-            lanes,
-        );
-        i += 1;
+fn find_lane(arrows: &mut [Arrow], k: usize, rows: Rows, count: u8) {
+    let lane = match free_lane(arrows, rows, count) {
+        Some(lane) => Lane::In(lane),
+        None => Lane::Told,
+    };
+    if let Some(arrow) = arrows.get_mut(k) {
+        *arrow = Arrow { rows, lane };
     }
 }
 
-fn find_lane(
-    froms: &[u16],
-    tos: &[u16],
-    lanes: &mut [u8],
-    k: usize,
-    from: u16,
-    to: u16,
-    count: u8,
-) {
-    let lane = free_lane(froms, tos, lanes, from, to, count);
-    if lane < count {
-        put_lane(lanes, k, lane);
-    } else {
-        put_lane(lanes, k, NO_LANE);
-    }
-}
-
-fn find_lane_if(froms: &[u16], tos: &[u16], lanes: &mut [u8], k: usize, span: u16, count: u8) {
-    let from = row_at(froms, k);
-    let to = row_at(tos, k);
-    if (lane_at(lanes, k) == NEW) & (span_of(from, to) == span) {
-        find_lane(froms, tos, lanes, k, from, to, count);
-    }
-}
-
-fn find_lanes(froms: &[u16], tos: &[u16], lanes: &mut [u8], span: u16, count: u8) {
-    let mut k = 0;
-    while k < SLOTS {
-        find_lane_if(froms, tos, lanes, k, span, count);
-        k += 1;
+fn find_lanes(arrows: &mut [Arrow], span: usize, count: u8) {
+    for k in 0..arrows.len() {
+        let Arrow { rows, lane } = arrows[k];
+        if (lane == Lane::Wanted) & (usize::from(rows.span()) == span) {
+            find_lane(arrows, k, rows, count);
+        }
     }
 }
 
 // The short arrows first, so that they lie inside the long ones.
-pub fn find_all_lanes(froms: &[u16], tos: &[u16], lanes: &mut [u8], rows: usize, count: u8) {
-    let mut span = 0;
-    while span < rows {
-        find_lanes(froms, tos, lanes, (span % 65536) as u16, count);
-        span += 1;
+pub fn find_all_lanes(arrows: &mut [Arrow], rows: usize, count: u8) {
+    for span in 0..rows {
+        find_lanes(arrows, span, count);
     }
 }
