@@ -1,15 +1,12 @@
 -- One access: what the code leaves is what its memory leaves. The one place where the operations are opened for the code.
 use Rattle.std.specs.Prelude.{Option}
-use Rattle.std.proofs.Common.{◌≡◌, ℕ, false, List, set, ap, sym, ◌∙◌}
+use Rattle.std.proofs.Common.{◌≡◌, ℕ, false, List, set, ap, ◌∙◌}
 use Rattle.sm83.specs.PowerOn.{cpu_zero}
 use Rattle.outcome.specs.declared.Outcome.TheVariants.{Normal}
 use Rattle.definition.specs.Bus.{Kind, Stack, Ask, leaf, byte_at, pending, taken}
 use Rattle.definition.specs.Step.{Ended}
-use Rattle.definition.specs.Execution.{byte_at_pc}
 use Rattle.bus.specs.declared.Port.{Port}
 use Rattle.bus.specs.World.{World, Led, world, counted, leads, peeked, after_write, after_take, accessing, Reads, Writes, Idles, Peeks, Takes}
-use Rattle.bus.specs.Leads.{Leads}
-use Rattle.sm83.specs.declared.Cpu.{Cpu}
 use Rattle.outcome.specs.declared.interrupt.InterruptType.{InterruptType}
 
 module _ (port port' : Port) (m m' : List ℕ) (e : port' ≡ counted port) where
@@ -28,11 +25,6 @@ module _ (port port' : Port) (m m' : List ℕ) (e : port' ≡ counted port) wher
 pub has_peeked : (m m' : List ℕ) (i : Option InterruptType) → i ≡ pending m → m' ≡ m → Peeks m i m'
 unfolding leads accessing
 has_peeked m m' i e1 e2 = record { there = λ port rest. simp (e1, e2) }
-
--- a byte fetched at PC leaves all bytes as they are
-pub fetch_keeps : (k : Kind) (s t : Cpu) (port port' : Port) (m m' : List ℕ) (v : ℕ) → Leads (byte_at_pc k) s port m v t port' m' → m' ≡ m
-unfolding leads accessing byte_at_pc
-fetch_keeps k s t port port' m m' v l = ap (λ (x : Led Ended). x.left.bytes) (sym (l (λ _ _. leaf (record { outcome = Normal; cpu = s }))))
 
 -- what a write leaves, for the take that follows it in the same access
 left_by : (k : Kind) (a v : ℕ) (port port' : Port) (m m' : List ℕ) → Writes k a v port m port' m' → after_write k (world port m) a v ≡ world port' m'

@@ -1,6 +1,6 @@
 -- Points 5 and 6: the latch, HaltBug, one byte or two, and the row that they stand for. What the callees answer comes to the definition's `instruction`.
 use Rattle.std.proofs.Common.{if◌then◌else◌}
-use mathlib.Core.Path.{◌≡◌, refl, ap, sym, ◌∙◌, subst⁻¹}
+use mathlib.Core.Path.{◌≡◌, refl, ap, sym, ◌∙◌}
 use mathlib.Core.Bool.{Bool, true, false, ◌||◌}
 use mathlib.Core.List.{List}
 use Prim.Native.Nat.{ℕ, ◌<◌}
@@ -20,7 +20,7 @@ use Rattle.instruction.specs.Row.{row_of, prefixed_row}
 use Rattle.bus.specs.declared.Port.{Port}
 use Rattle.bus.specs.World.{world, leads}
 use Rattle.bus.specs.Leads.{Leads, LeadsTo}
-use Rattle.bus.proofs.Accesses.{fetch_keeps}
+use Rattle.bus.proofs.Bytes.{fetch_keeps}
 use Rattle.execution.specs.Mirror.{exec_row}
 use Rattle.step.specs.Stages.{unbugged, Fetches}
 use Rattle.execution.proofs.Small.{ByteRegisters}
@@ -67,7 +67,7 @@ module _ (s u t : Cpu) (port port' : Port) (m m' : List ℕ) (b : ℕ) (e : u �
     fetches_unprefixed small ne ei bytes regs = rw ei (record { left = record { there = leading }; can_run = (row_runs b small (ne_eqb b 0xcb ne)).1 })
       where
         leading : LeadsTo instruction s port m (exec_row (row_of (decode b)) (pc u)) v port' m'
-        leading k = from_here k ∙ sym (row_leads (world port' m') (subst⁻¹ Bytes (fetch_keeps _ _ _ _ _ _ _ _ first) bytes) (pc u) v regs k (decode b) (row_runs b small (ne_eqb b 0xcb ne)).0)
+        leading k = from_here k ∙ sym (row_leads (world port' m') (fetch_keeps _ _ _ _ _ _ _ _ first bytes) (pc u) v regs k (decode b) (row_runs b small (ne_eqb b 0xcb ne)).0)
 
     pub fetches_prefixed : (w : Cpu) (port'' : Port) (m'' : List ℕ) (y : ℕ) → b ≡ 0xcb → Leads (byte_at_pc Fetch) v port' m' y w port'' m'' → y < 256 → i ≡ prefixed_row (decode_cb y) → Bytes m → ByteRegisters w.registers → Fetches s port m (pc u) i w port'' m''
     fetches_prefixed w port'' m'' y eb second small ei bytes regs = rw ei (record { left = record { there = leading }; can_run = prefixed_row_runs y small })
@@ -77,7 +77,7 @@ module _ (s u t : Cpu) (port port' : Port) (m m' : List ℕ) (b : ℕ) (e : u �
             from_here k
             ∙ ap (λ (x : ℕ). leads (execute (pc u) (decode x) v k) (world port' m')) eb
             ∙ second_byte (pc u) v w port' port'' m' m'' y second k
-            ∙ sym (prefixed_row_leads (world port'' m'') (subst⁻¹ Bytes (fetch_keeps _ _ _ _ _ _ _ _ second ∙ fetch_keeps _ _ _ _ _ _ _ _ first) bytes) (pc u) w regs k y)
+            ∙ sym (prefixed_row_leads (world port'' m'') (fetch_keeps _ _ _ _ _ _ _ _ second (fetch_keeps _ _ _ _ _ _ _ _ first bytes)) (pc u) w regs k y)
 
 -- 7. the instruction that the entry stands for is executed
 pub executes : (s t u : Cpu) (port port' port'' : Port) (m m' m'' : List ℕ) (at : ℕ) (i j : Instruction) (o : Outcome) → LeadsTo instruction s port m (exec_row i at) t port' m' → j ≡ i → Leads (exec_row j at) t port' m' o u port'' m'' → Leads instruction s port m o u port'' m''
