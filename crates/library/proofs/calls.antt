@@ -1,0 +1,2 @@
+-- Laws of the blocks after a step or a run.
+pub mod Blocks

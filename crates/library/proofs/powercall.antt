@@ -1,0 +1,2 @@
+-- Laws of the state block after power-on.
+pub mod PowerOns
