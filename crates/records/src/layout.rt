@@ -6,7 +6,7 @@ use crate::slices::patch;
 use blocks::bytes::word_at;
 
 // The head, of every record. The layout is the file's, by offsets, as specs/Record has it.
-pub(crate) const KIND: usize = 2;
+pub const KIND: usize = 2;
 
 pub const NAME_LENGTH: usize = 3;
 
@@ -22,7 +22,7 @@ pub const FIRST: usize = 11;
 
 pub const LAST: usize = 13;
 
-pub(crate) const HEAD_SIZE: usize = 15;
+pub const HEAD_SIZE: usize = 15;
 
 // A step or a run.
 pub const STATE: usize = 15;
