@@ -281,7 +281,7 @@ static INSTRUCTIONS: [Entry; 256] = [
     (Rst(0x38), (Implied, Implied)),
 ];
 
-pub(crate) fn instructions() -> &'static [Entry; 256]
+pub fn instructions() -> &'static [Entry; 256]
     ensures { Unprefixed result.now }
 {
     &INSTRUCTIONS

@@ -3,8 +3,8 @@
 
 pub mod conditions;
 mod decoding;
-mod instructions_table;
-mod prefixed_table;
+pub mod instructions_table;
+pub mod prefixed_table;
 
 #[derive(Clone, Copy)]
 pub enum Condition {
@@ -111,4 +111,4 @@ pub struct Instruction {
 }
 
 // An entry of a table: an opcode, where its result goes, where its operand comes from.
-pub(crate) type Entry = (Opcode, (OperandType, OperandType));
+pub type Entry = (Opcode, (OperandType, OperandType));

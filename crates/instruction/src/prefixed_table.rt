@@ -280,7 +280,7 @@ static PREFIXED_INSTRUCTIONS: [Entry; 256] = [
     (Set(7), (RegA, RegA)),
 ];
 
-pub(crate) fn prefixed_instructions() -> &'static [Entry; 256]
+pub fn prefixed_instructions() -> &'static [Entry; 256]
     ensures { Prefixed result.now }
 {
     &PREFIXED_INSTRUCTIONS
