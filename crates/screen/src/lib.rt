@@ -5,6 +5,7 @@ ghost use Rattle.std.specs.Prelude.{◌+◌, ◌≤◌, length};
 ghost use Rattle.routine.specs.Screen.{verdict, screen};
 ghost use Rattle.screen.specs.Parts.{Finds, Screens};
 
+use crate::marks::UNMARKED;
 use crate::walk::walk;
 use crate::window::Window;
 use routine::{Finding, ScreenRefusal};
@@ -28,7 +29,7 @@ fn judge(mem: &[u8], first: Addr, marks: &mut [u8]) -> Result<(), Finding>
     let found = window.tested();
     let refused = found.is_err();
     if refused {
-        marks.fill(0);
+        marks.fill(UNMARKED);
     }
     found
 }

@@ -3,6 +3,7 @@ ghost use Rattle.std.specs.Prelude.{◌≡◌, ◌+◌, ◌≤◌, length};
 ghost use Rattle.screen.specs.Parts.{walked, Finds};
 
 use crate::class::{Shape, is_forbidden};
+use crate::marks::UNMARKED;
 use crate::memory::shape_at;
 use crate::window::address;
 use routine::{Finding, ScreenRefusal};
@@ -14,7 +15,7 @@ pub fn walk(mem: &[u8], first: Addr, marks: &mut [u8]) -> Result<(), Finding>
     requires { first.0 + length marks.old ≤ 65536 }
     ensures { Finds walked mem.now first.0 (length marks.old) result marks.new }
 {
-    marks.fill(0);
+    marks.fill(UNMARKED);
     let n = marks.len();
     let mut at = 0;
     // no range steps by the instruction's length, so the loop moves `at` itself
@@ -25,11 +26,11 @@ pub fn walk(mem: &[u8], first: Addr, marks: &mut [u8]) -> Result<(), Finding>
         let forbidden = is_forbidden(class);
         let too_long = n - at < length;
         if forbidden {
-            marks.fill(0);
+            marks.fill(UNMARKED);
             return Err(Finding::At(ScreenRefusal::ForbiddenOpcode, here));
         }
         if too_long {
-            marks.fill(0);
+            marks.fill(UNMARKED);
             return Err(Finding::At(ScreenRefusal::PastTheEnd, here));
         }
         marks[at] = 1;
