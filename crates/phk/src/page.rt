@@ -92,6 +92,8 @@ fn print_in<const ROOM: usize>(
     say(host, to, &out, n)
 }
 
+// Not inlined: the room for the line would lie in the frame of each caller, also while that calls others.
+#[inline(never)]
 pub fn print(host: &Host, to: Stream, form: &[u8], values: &[u64], word: &[u8]) {
     print_in::<65536>(host, to, form, values, word);
 }

@@ -14,6 +14,9 @@ use std::os::unix::fs::{PermissionsExt, fchown};
 use std::{fs, io};
 use text::page::Page;
 
+// The longest name beside a file: two words of a command line, and .new- between them.
+const LONGEST_NAME: usize = 4096 + 5 + 4096;
+
 // Why memory is not written at the name that --out gives.
 #[derive(Drop)]
 pub enum WhyNot {
@@ -102,8 +105,8 @@ fn may_save_as(host: &Host, path: &[u8], image: &[u8]) -> Result<(), WhyNot> {
 
 // The new file's name is the file's with .new- and the program's first word, in which the launcher puts its process's number: if the
 // program is ended in between, the launcher removes it by that name.
-fn name_beside(host: &Host, path: &[u8]) -> Filled<65536> {
-    let mut new = [0u8; 65536];
+fn name_beside(host: &Host, path: &[u8]) -> Filled<LONGEST_NAME> {
+    let mut new = [0u8; LONGEST_NAME];
     let mut page = Page {
         bytes: &mut new,
         at: 0,
