@@ -1,5 +1,5 @@
--- The window that `phk screen` asks of, and its verdict.
-use Rattle.std.specs.Prelude.{ℕ, suc, ◌+◌, ◌-◌, ◌%◌, List, is_ok, replicate}
+-- The window that `phk screen` asks of, its verdict and its marks.
+use Rattle.std.specs.Prelude.{ℕ, suc, ◌+◌, ◌-◌, ◌%◌, Bool, List, is_ok, replicate, ◌==◌, slice_index}
 use Rattle.routine.specs.Verdict.{Verdict}
 use Rattle.routine.specs.Screen.{screen}
 use Rattle.commandline.specs.declared.grammar.Part.TheVariants.{First, Last}
@@ -24,6 +24,9 @@ verdict_on l m = (screen m (first l) (last l) (replicate (suc (last l - first l)
 
 abbrev pub status_of_verdict : Verdict → ℕ
 status_of_verdict v = status_if (is_ok v)
+
+abbrev pub is_mark : List ℕ → ℕ → Bool
+is_mark marks i = slice_index marks i == 1
 
 -- how far an address is behind another; addresses wrap
 abbrev pub behind : ℕ → ℕ → ℕ

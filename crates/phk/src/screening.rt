@@ -2,7 +2,7 @@
 ghost use Rattle.std.specs.Prelude.{◌≡◌};
 ghost use Rattle.routine.specs.Screen.{screen};
 ghost use Rattle.phk.specs.Status.{status_number};
-ghost use Rattle.phk.specs.Window.{verdict_on, status_of_verdict};
+ghost use Rattle.phk.specs.Window.{verdict_on, status_of_verdict, is_mark};
 
 use crate::page::{out, within};
 use crate::said::{Env, Host, Status, status_if};
@@ -18,11 +18,17 @@ use routine::Finding;
 use screen::{LONGEST_WINDOW, screen};
 use sm83::Addr;
 
+fn mark(marks: &[u8], i: usize) -> bool
+    ensures { result ≡ is_mark marks.now i }
+{
+    marks.get(i).copied() == Some(1)
+}
+
 // The starts that are marked: a mark for each byte from the first address on.
 fn print_starts(host: &Host, mem: &[u8], marks: &[u8], first: u16) {
     let mut a = first;
-    for mark in marks {
-        if *mark == 1 {
+    for i in 0..marks.len() {
+        if mark(marks, i) {
             sentences::start(host, mem, a);
         }
         a = after(a, 1);

@@ -1,6 +1,6 @@
 // phk show: bytes of memory, 16 a row, or the words of a stack. What the image does not have is shown as --.
 ghost use Rattle.std.specs.Prelude.{◌≡◌};
-ghost use Rattle.phk.specs.Shown.{at_most};
+ghost use Rattle.phk.specs.Shown.{at_most, next_of16};
 
 use crate::page::{out, print_short};
 use crate::said::{Host, Stream};
@@ -25,15 +25,23 @@ fn print_byte(host: &Host, mem: &[u8], held: Held, a: u16) {
     }
 }
 
+fn next_of_16(column: u8) -> u8
+    ensures { result ≡ next_of16 column }
+{
+    (column % 16 + 1) % 16
+}
+
 // 16 to a row, with its address in front.
 fn print_bytes(host: &Host, mem: &[u8], held: Held, first: u16, count: u32) {
     let mut a = first;
+    let mut column: u8 = 0;
     for i in 0..count {
-        if i % 16 == 0 {
+        if column == 0 {
             print_short(host, Stream::Output, b"# ", &[u64::from(a)], b"");
         }
         print_byte(host, mem, held, a);
-        if (i % 16 == 15) | (i == count - 1) {
+        column = next_of_16(column);
+        if (column == 0) | (i == count - 1) {
             out(host, b"\n");
         }
         a = after(a, 1);
