@@ -24,6 +24,10 @@ pub enum NoImage {
 }
 
 impl From<io::Error> for NoImage {
+    ghost use Rattle.phk.specs.declared.files.NoImage.TheVariants.{Unreadable};
+
+    ghost from_gives = { λ e why. why ≡ Unreadable e };
+
     fn from(e: io::Error) -> Self {
         NoImage::Unreadable(e)
     }
