@@ -1,5 +1,6 @@
 // The grammar: the commands, what a word may stand for, which words a command takes, and what follows an option. A new command or option
-// is one case in each of these, and a sentence in the program.
+// is one case in each of these, and a sentence in the program; where a word is looked up, it is a line of the text and, at the same place,
+// an element of the list beside it.
 ghost use Rattle.std.specs.Prelude.{◌≡◌};
 ghost use Rattle.text.specs.Lines.{number_of};
 ghost use Rattle.commandline.specs.Grammar.{PlaceOf, split_first, turn_of, may_lack, allows, kind_of, own_value, values_of, is_alone, named, command_named, option_named, power_named};
