@@ -24,8 +24,10 @@ impl Page<'_> {
     pub(crate) fn put_decimal(&mut self, n: u64)
         ensures { Put self.old self.new (decimal n) }
     {
-        for place in (0..20).rev() {
-            self.put_digit(n, 10u64.pow(place));
+        let mut scale: u64 = 10000000000000000000;
+        for _ in 0..20u8 {
+            self.put_digit(n, scale);
+            scale /= 10;
         }
     }
 }

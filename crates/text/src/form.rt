@@ -50,14 +50,19 @@ impl Page<'_> {
         }
     }
 
-    // A value that is missing counts as 0.
+    // A value that is missing counts as 0. It writes by a page of its own, whose place need not be stored again at each byte.
     pub fn fill(&mut self, form: &[u8], values: &[u64], word: &[u8])
         ensures { Put self.old self.new (filled form.now values.now word.now) }
     {
+        let mut page = Page {
+            bytes: &mut *self.bytes,
+            at: self.at,
+        };
         let mut k = 0;
         for b in form {
-            self.put_meant(*b, values.get(k).copied().unwrap_or(0), word);
+            page.put_meant(*b, values.get(k).copied().unwrap_or(0), word);
             k += usize::from(takes(*b));
         }
+        self.at = page.at;
     }
 }

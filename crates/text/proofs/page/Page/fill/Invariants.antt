@@ -6,4 +6,4 @@ use Rattle.text.proofs.page.Page.fill.Given as goal
 
 abbrev pub invariant-loop-b : goal.invariant-loop-b
 invariant-loop-b l =
-    (l.k ≤ l.b-index) × Leads l.fn.self (filled_from 0 l.form l.values l.word) l.self (filled_from l.k (drop l.b-index l.form) l.values l.word)
+    (l.k ≤ l.b-index) × Leads l.initial.page (filled_from 0 l.form l.values l.word) l.page (filled_from l.k (drop l.b-index l.form) l.values l.word)
