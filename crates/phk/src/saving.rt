@@ -189,11 +189,15 @@ fn place(host: &Host, file: File, new: &[u8], path: &[u8], mem: &[u8]) -> Result
     rename(host, new, path).map_err(WhyNot::NotPlaced)
 }
 
-fn save_as(host: &Host, path: &[u8], mem: &[u8]) -> Result<(), WhyNot> {
+// Why it is not in its place is told, and then the new file goes.
+fn save_as(host: &Host, path: &[u8], mem: &[u8]) -> Result<(), GivenUp> {
     let new = name_beside(host, path);
-    let file = create(host, new.as_slice()).map_err(WhyNot::NotMade)?;
+    let file = match create(host, new.as_slice()) {
+        Ok(file) => file,
+        Err(e) => return told(host, path, Err(WhyNot::NotMade(e))),
+    };
     hand_on(&file, look(host, path, false));
-    let placed = place(host, file, new.as_slice(), path, mem);
+    let placed = told(host, path, place(host, file, new.as_slice(), path, mem));
     if placed.is_err() {
         remove(host, new.as_slice());
     }
@@ -202,5 +206,5 @@ fn save_as(host: &Host, path: &[u8], mem: &[u8]) -> Result<(), WhyNot> {
 
 pub fn save(host: &Host, line: Line, mem: &[u8]) -> Result<(), GivenUp> {
     let path = arg(host, line.word(Part::Out, 0));
-    told(host, path.as_slice(), save_as(host, path.as_slice(), mem))
+    save_as(host, path.as_slice(), mem)
 }
