@@ -1,6 +1,6 @@
 // The lanes of a picture of a window's jumps. An arrow goes from a row to a row; two that share a row must not share a lane.
-ghost use Rattle.std.specs.Prelude.{◌≡◌};
-ghost use Rattle.map.specs.Lanes.{span_of, above, crosses, arrow_or, is_in, holds_lane, is_taken, free_lane};
+ghost use Rattle.std.specs.Prelude.{◌≡◌, ◌<◌, ◌||◌, ℕ, false, get_or};
+ghost use Rattle.map.specs.Lanes.{span_of, above, crosses, arrow_or, holds_lane, is_taken, free_lane};
 
 // The rows that an arrow comes from and goes to.
 #[derive(Clone, Copy)]
@@ -47,14 +47,6 @@ pub enum Lane {
     In(u8),
 }
 
-impl Lane {
-    fn is_in(self, lane: u8) -> bool
-        ensures { result ≡ is_in self lane }
-    {
-        matches!(self, Lane::In(held) if held == lane)
-    }
-}
-
 #[derive(Clone, Copy)]
 pub struct Arrow {
     pub rows: Rows,
@@ -74,22 +66,33 @@ pub fn arrow_at(arrows: &[Arrow], k: usize) -> Arrow
     }
 }
 
-// Whether an arrow is in the lane and shares a row with a new one.
-fn holds_lane(arrow: Arrow, rows: Rows, lane: u8) -> bool
-    ensures { result ≡ holds_lane rows lane arrow }
+// How many lanes there can be: one for each number of a byte.
+const LANES: usize = 256;
+
+// An arrow that shares a row with a new one takes its lane.
+fn take_lane(taken: &mut [bool; LANES], arrow: Arrow, rows: Rows)
+    ensures { (lane : ℕ) → lane < 256 → get_or taken.new lane false ≡ (get_or taken.old lane false || holds_lane rows lane arrow) }
 {
-    arrow.lane.is_in(lane) & rows.crosses(arrow.rows)
+    if let Lane::In(lane) = arrow.lane {
+        taken[usize::from(lane)] |= rows.crosses(arrow.rows);
+    }
 }
 
-fn is_taken(arrows: &[Arrow], rows: Rows, lane: u8) -> bool
-    ensures { result ≡ is_taken arrows.now rows lane }
+// Of each lane, whether an arrow in it shares a row with a new one.
+fn taken_lanes(arrows: &[Arrow], rows: Rows) -> [bool; LANES]
+    ensures { (lane : ℕ) → lane < 256 → get_or result lane false ≡ is_taken arrows.now rows lane }
 {
-    arrows.iter().any(|arrow| holds_lane(*arrow, rows, lane))
+    let mut taken = [false; LANES];
+    for arrow in arrows {
+        take_lane(&mut taken, *arrow, rows);
+    }
+    taken
 }
 
 // The lowest of so many lanes that is free for a new arrow, if one is.
 pub fn free_lane(arrows: &[Arrow], rows: Rows, count: u8) -> Option<u8>
     ensures { result ≡ free_lane arrows.now rows count }
 {
-    (0..count).find(|lane| !is_taken(arrows, rows, *lane))
+    let taken = taken_lanes(arrows, rows);
+    (0..count).find(|lane| !taken[usize::from(*lane)])
 }

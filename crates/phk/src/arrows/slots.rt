@@ -61,7 +61,7 @@ fn find_lane(arrows: &mut [Arrow], k: usize, rows: Rows, count: u8) {
 fn find_lanes(arrows: &mut [Arrow], span: usize, count: u8) {
     for k in 0..arrows.len() {
         let Arrow { rows, lane } = arrows[k];
-        if (lane == Lane::Wanted) & (usize::from(rows.span()) == span) {
+        if lane == Lane::Wanted && usize::from(rows.span()) == span {
             find_lane(arrows, k, rows, count);
         }
     }
