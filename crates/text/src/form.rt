@@ -59,9 +59,9 @@ impl Page<'_> {
             at: self.at,
         };
         let mut k = 0;
-        for b in form {
-            page.put_meant(*b, values.get(k).copied().unwrap_or(0), word);
-            k += usize::from(takes(*b));
+        for &b in form {
+            page.put_meant(b, values.get(k).copied().unwrap_or(0), word);
+            k += usize::from(takes(b));
         }
         self.at = page.at;
     }
